@@ -1,0 +1,51 @@
+-- Laws of Booleans.
+use mathlib.Core.Path.{_≡_, refl, sym, ap, subst, _∙_}
+use mathlib.Core.Bool.{Bool, true, false, not, cond, _&&_, _||_}
+use lib.Dec.{T}
+
+pub clash : {A : Type 0} → true ≡ false → A
+clash e = absurd (subst T e tt)
+
+-- ---- and
+
+pub and-left : (a b : Bool) → a && b ≡ true → a ≡ true
+and-left true b e = refl
+and-left false b e = e
+
+pub and-right : (a b : Bool) → a && b ≡ true → b ≡ true
+and-right true b e = e
+and-right false b e = clash (sym e)
+
+pub and-both : {a b : Bool} → a ≡ true → b ≡ true → a && b ≡ true
+and-both p q = rw (p, q)
+
+pub and-false : (a : Bool) → a && false ≡ false
+and-false true = refl
+and-false false = refl
+
+pub and-true : (a : Bool) → a && true ≡ a
+and-true true = refl
+and-true false = refl
+
+-- ---- not both
+
+pub not-both : (a b : Bool) → not (a && b) ≡ true → a ≡ true → b ≡ false
+not-both true true e h = sym e
+not-both true false e h = refl
+not-both false b e h = clash (sym h)
+
+pub not-both-of : (a b : Bool) → (a ≡ true → b ≡ false) → not (a && b) ≡ true
+not-both-of true b f = rw (f refl)
+not-both-of false b f = refl
+
+-- ---- a test decided either way
+
+pub not-true-false : (a : Bool) → (a ≡ true → ⊥) → a ≡ false
+not-true-false true f = absurd (f refl)
+not-true-false false f = refl
+
+pub cond-true : {A : Type 0} (b : Bool) (x y : A) → b ≡ true → cond b x y ≡ x
+cond-true b x y e = rw e
+
+pub cond-false : {A : Type 0} (b : Bool) (x y : A) → b ≡ false → cond b x y ≡ y
+cond-false b x y e = rw e

@@ -1,0 +1,7 @@
+pub mod Bools
+pub mod Bit
+pub mod Scan
+pub mod Fill
+pub mod Every
+pub mod Digits
+pub mod Store

@@ -1,0 +1,2 @@
+// Tables over pin numbers, bits of a word and Booleans: the definitions and laws that every room above shares.
+pub const PINS: usize = 24;
