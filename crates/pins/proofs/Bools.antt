@@ -27,6 +27,10 @@ pub and-true : (a : Bool) → a && true ≡ a
 and-true true = refl
 and-true false = refl
 
+pub and-assoc : (a b c : Bool) → a && b && c ≡ a && (b && c)
+and-assoc true b c = refl
+and-assoc false b c = refl
+
 -- ---- not both
 
 pub not-both : (a b : Bool) → not (a && b) ≡ true → a ≡ true → b ≡ false

@@ -1,0 +1,63 @@
+use mathlib.Core.Path.{_≡_, sym, ap, _∙_}
+use lib.ListN.{length}
+use Rattle.entries.proofs.Sized.{low-shown-above}
+use Rattle.entries.specs.Table.{lowShown}
+use borrow.Author.Needs.{needs}
+use Rattle.entries.proofs.Entries.low_shown.Statement.{statement}
+use Rattle.entries.proofs.Entries.low_shown.Tie as tie
+use Rattle.entries.proofs.Entries.low_shown.Reads as reads
+use Rattle.entries.proofs.Entries.low_shown.Lts as lts
+use Rattle.entries.proofs.Low.eligible.Reads as eligible-reads
+use Rattle.entries.proofs.Low.shown.Reads as shown-reads
+
+-- src/table.rt:151:13
+returns : tie.Need-returns
+returns c =
+    let e = c .before .args .t1 in
+    let a : length (e .low) ≡ 24 = search needs in
+    let b : length (e .destination) ≡ 24 = search needs in
+    let d : length (e .level) ≡ 24 = search needs in
+    let h : length (e .held) ≡ 24 = search needs in
+    sym (low-shown-above e (record { low = a; destination = b; level = d; held = h }) (c .before .args .n) (c .if1 .taken))
+
+-- src/table.rt:153:23
+mul-t6 : tie.Need-mul-t6
+mul-t6 c = search needs
+
+-- src/table.rt:153:23
+element-copy-out-t9 : tie.Need-element-copy-out-t9
+element-copy-out-t9 c = search needs
+
+-- src/table.rt:154:32
+element-copy-out-eligible : tie.Need-element-copy-out-eligible
+element-copy-out-eligible c = search needs
+
+-- src/table.rt:154:47
+element-copy-out-eligible-2 : tie.Need-element-copy-out-eligible-2
+element-copy-out-eligible-2 c = search needs
+
+-- src/table.rt:154:19
+eligible-requires : tie.Need-eligible-requires
+eligible-requires c κs = search needs
+
+-- src/table.rt:154:9
+shown-requires : tie.Need-shown-requires
+shown-requires c κs = search needs
+
+-- src/table.rt:147:5
+returns-2 : tie.Need-returns-2
+unfolding lowShown
+returns-2 c = c .shown .ensures ∙ rw (c .before .eligible .ensures)
+
+pub low-shown-spec : {M : Type 1} → statement M
+low-shown-spec =
+    tie.close
+    (tie.spec
+    returns
+    mul-t6
+    element-copy-out-t9
+    element-copy-out-eligible
+    element-copy-out-eligible-2
+    eligible-requires
+    shown-requires
+    returns-2)

@@ -1,0 +1,3 @@
+pub mod Word
+pub mod Pin
+pub mod Table

@@ -1,0 +1,53 @@
+// One pin: its low word with the level of its wire and its held edge.
+ghost use mathlib.Core.Path.{_≡_};
+ghost use Rattle.entries.specs.Pin.{asserted, makesEdge, heldAfter, eligible, endedWord, pinOk};
+use crate::Low;
+
+impl Low {
+    pub fn asserted(self, level: u8) -> bool
+        ensures { λ r. ⌜ r ≡ asserted (self .0) level ⌝ }
+    {
+        level != self.active_low()
+    }
+
+    pub fn makes_edge(self, before: u8, after: u8) -> bool
+        ensures { λ r. ⌜ r ≡ makesEdge (self .0) before after ⌝ }
+    {
+        !self.is_masked() & !self.is_level() & !self.asserted(before) & self.asserted(after)
+    }
+
+    pub fn held_after(self, before: u8, after: u8, held: u8) -> u8
+        ensures { λ r. ⌜ r ≡ heldAfter (self .0) before after held ⌝ }
+    {
+        if self.makes_edge(before, after) {
+            1
+        } else {
+            held
+        }
+    }
+
+    pub fn eligible(self, level: u8, held: u8) -> bool
+        ensures { λ r. ⌜ r ≡ eligible (self .0) level held ⌝ }
+    {
+        let is_level = self.is_level();
+        !self.is_masked()
+            & (self.mode() == 0)
+            & (!is_level & (held == 1) | is_level & self.asserted(level) & !self.is_remote())
+    }
+
+    pub fn ended(self, vector: u8) -> u32
+        ensures { λ r. ⌜ r ≡ endedWord (self .0) vector ⌝ }
+    {
+        if self.is_level() & (self.vector() == vector) {
+            self.without_remote()
+        } else {
+            self.0
+        }
+    }
+
+    pub fn pin_ok(self, level: u8, held: u8) -> bool
+        ensures { λ r. ⌜ r ≡ pinOk (self .0) level held ⌝ }
+    {
+        self.word_ok() & !(self.is_level() & (held == 1)) & (level <= 1) & (held <= 1)
+    }
+}

@@ -1,0 +1,122 @@
+// The fields of a low word, by shifts and masks.
+ghost use mathlib.Core.Path.{_≡_};
+ghost use Prim.Native.Nat.{_<_, _/_, _%_, _^_};
+ghost use Rattle.entries.specs.Word.{vectorOf, modeOf, logicalOf, activeLowOf, remoteOf, levelOf, maskedOf, withRemote, withoutRemote, written, shown, wordOk};
+use crate::Low;
+
+impl Low {
+    pub const VECTOR: u32 = 0xff;
+
+    pub const MODE_AT: u32 = 8;
+
+    pub const MODE: u32 = 0x7;
+
+    pub const LOGICAL_AT: u32 = 11;
+
+    pub const STATUS_AT: u32 = 12;
+
+    pub const STATUS: u32 = 0x0000_1000;
+
+    pub const ACTIVE_LOW_AT: u32 = 13;
+
+    pub const REMOTE_AT: u32 = 14;
+
+    pub const REMOTE: u32 = 0x0000_4000;
+
+    pub const NOT_REMOTE: u32 = 0xffff_bfff;
+
+    pub const LEVEL_AT: u32 = 15;
+
+    pub const MASKED_AT: u32 = 16;
+
+    pub const UNUSED_AT: u32 = 17;
+
+    pub const WRITABLE: u32 = 0x0001_afff;
+
+    pub const RESET: u32 = 0x0001_0000;
+
+    pub fn vector(self) -> u8
+        ensures { λ r. ⌜ r ≡ vectorOf (self .0) ⌝ }
+    {
+        (self.0 & Low::VECTOR) as u8
+    }
+
+    pub fn mode(self) -> u32
+        ensures { λ r. ⌜ r ≡ modeOf (self .0) ⌝ }
+    {
+        (self.0 >> Low::MODE_AT) & Low::MODE
+    }
+
+    // One bit, by its number.
+    fn bit(self, at: u32) -> u8
+        requires { ⌜ at < 32 ⌝ }
+        ensures { λ r. ⌜ r ≡ self .0 / 2 ^ at % 2 ⌝ }
+    {
+        ((self.0 >> at) & 1) as u8
+    }
+
+    pub fn logical(self) -> u8
+        ensures { λ r. ⌜ r ≡ logicalOf (self .0) ⌝ }
+    {
+        self.bit(Low::LOGICAL_AT)
+    }
+
+    pub fn active_low(self) -> u8
+        ensures { λ r. ⌜ r ≡ activeLowOf (self .0) ⌝ }
+    {
+        self.bit(Low::ACTIVE_LOW_AT)
+    }
+
+    pub fn is_remote(self) -> bool
+        ensures { λ r. ⌜ r ≡ remoteOf (self .0) ⌝ }
+    {
+        self.bit(Low::REMOTE_AT) == 1
+    }
+
+    pub fn is_level(self) -> bool
+        ensures { λ r. ⌜ r ≡ levelOf (self .0) ⌝ }
+    {
+        self.bit(Low::LEVEL_AT) == 1
+    }
+
+    pub fn is_masked(self) -> bool
+        ensures { λ r. ⌜ r ≡ maskedOf (self .0) ⌝ }
+    {
+        self.bit(Low::MASKED_AT) == 1
+    }
+
+    pub fn with_remote(self) -> u32
+        ensures { λ r. ⌜ r ≡ withRemote (self .0) ⌝ }
+    {
+        self.0 | Low::REMOTE
+    }
+
+    pub fn without_remote(self) -> u32
+        ensures { λ r. ⌜ r ≡ withoutRemote (self .0) ⌝ }
+    {
+        self.0 & Low::NOT_REMOTE
+    }
+
+    // The word after a write of a value: the writable bits of it, and remote IRR as it was.
+    pub fn written(self, value: u32) -> u32
+        ensures { λ r. ⌜ r ≡ written (self .0) value ⌝ }
+    {
+        (value & Low::WRITABLE) | (self.0 & Low::REMOTE)
+    }
+
+    pub fn shown(self, eligible: bool) -> u32
+        ensures { λ r. ⌜ r ≡ shown (self .0) eligible ⌝ }
+    {
+        if eligible {
+            self.0 | Low::STATUS
+        } else {
+            self.0
+        }
+    }
+
+    pub fn word_ok(self) -> bool
+        ensures { λ r. ⌜ r ≡ wordOk (self .0) ⌝ }
+    {
+        (self.bit(Low::STATUS_AT) == 0) & (self.0 >> Low::UNUSED_AT == 0)
+    }
+}
