@@ -1,2 +1,5 @@
 pub mod Fields
 pub mod Sized
+pub mod Formed
+pub mod Pulse
+pub mod Delivery

@@ -1,0 +1,283 @@
+-- Well-formed pins, part by part, and that each step turns well-formed entries into such.
+use mathlib.Core.Path.{_≡_, refl, sym, ap, _∙_}
+use mathlib.Core.Bool.{Bool, true, false, not, cond, _&&_}
+use mathlib.Core.List.{List}
+use Prim.Native.Nat.{ℕ, zero, suc, _+_, _-_, _*_, _/_, _%_, _<_}
+use native.Mathlib.Omega.{arith}
+use native.Mathlib.Nat.{mod-lt}
+use lib.Dec.{eqb, leb, lit<}
+use lib.ListN.{getD, set}
+use lib.Seq.{set-getD}
+use borrow.Author.Tests.{eq-eqb, eqb-true}
+use Rattle.pins.specs.Pins.{allFrom, pins}
+use Rattle.pins.proofs.Bools.{clash, and-left, and-right, and-both, and-false, not-both, not-both-of}
+use Rattle.pins.proofs.Every.{every-at, every-of}
+use Rattle.pins.proofs.Fill.{getD-tab}
+use Rattle.pins.proofs.Store.{getD-set}
+use Rattle.entries.specs.declared.Entries.{Entries}
+use Rattle.entries.specs.Word.{vectorOf, levelOf, remoteOf, maskedOf, withRemote, withoutRemote, writable, written, wordOk}
+use Rattle.entries.specs.Pin.{asserted, makesEdge, heldAfter, endedWord, pinOk}
+use Rattle.entries.specs.Table.{resetEntries, lowAt, levelAt, heldAt, withLow, withHeld, withLevel, pinOkAt, entriesOk, levelsOk, wired, pulsed, ended, taken, lowWritten, highWritten, heldAfterWrite}
+use Rattle.entries.proofs.Sized.{Sized}
+
+-- what `pinOk` tests
+pub record PinGood (w level held : ℕ) : Type 0 where
+  pub status : w / 4096 % 2 ≡ 0
+  pub unused : w / 131072 ≡ 0
+  pub edge : levelOf w ≡ true → eqb held 1 ≡ false
+  pub level-fits : leb level 1 ≡ true
+  pub held-fits : leb held 1 ≡ true
+
+module _ (w level held : ℕ) where
+  abbrev p1 : Bool
+  p1 = eqb (w / 4096 % 2) 0 && eqb (w / 131072) 0
+
+  abbrev p2 : Bool
+  p2 = not (levelOf w && eqb held 1)
+
+  pub good : pinOk w level held ≡ true → PinGood w level held
+  unfolding pinOk wordOk
+  good e =
+      let e3 = and-left (p1 && p2 && leb level 1) (leb held 1) e in
+      let e2 = and-left (p1 && p2) (leb level 1) e3 in
+      let e1 = and-left p1 p2 e2 in
+      record {
+        status = eqb-true (w / 4096 % 2) 0 (and-left (eqb (w / 4096 % 2) 0) (eqb (w / 131072) 0) e1);
+        unused = eqb-true (w / 131072) 0 (and-right (eqb (w / 4096 % 2) 0) (eqb (w / 131072) 0) e1);
+        edge = not-both (levelOf w) (eqb held 1) (and-right p1 p2 e2);
+        level-fits = and-right (p1 && p2) (leb level 1) e3;
+        held-fits = and-right (p1 && p2 && leb level 1) (leb held 1) e;
+      }
+
+  pub pin-ok : PinGood w level held → pinOk w level held ≡ true
+  unfolding pinOk wordOk
+  pin-ok g =
+      and-both
+      (and-both
+      (and-both
+      (and-both (eq-eqb (w / 4096 % 2) 0 (g .status)) (eq-eqb (w / 131072) 0 (g .unused)))
+      (not-both-of (levelOf w) (eqb held 1) (g .edge)))
+      (g .level-fits))
+      (g .held-fits)
+
+-- ---- remote IRR is apart from the other bits
+
+low-12 : (w : ℕ) → (w - w / 16384 % 2 * 16384) / 4096 % 2 ≡ w / 4096 % 2
+low-12 w = omega arith
+
+low-15 : (w : ℕ) → (w - w / 16384 % 2 * 16384) / 32768 ≡ w / 32768
+low-15 w = omega arith
+
+low-17 : (w : ℕ) → (w - w / 16384 % 2 * 16384) / 131072 ≡ w / 131072
+low-17 w = omega arith
+
+set-12 : (w : ℕ) → (w - w / 16384 % 2 * 16384 + 16384) / 4096 % 2 ≡ w / 4096 % 2
+set-12 w = omega arith
+
+set-15 : (w : ℕ) → (w - w / 16384 % 2 * 16384 + 16384) / 32768 ≡ w / 32768
+set-15 w = omega arith
+
+set-17 : (w : ℕ) → (w - w / 16384 % 2 * 16384 + 16384) / 131072 ≡ w / 131072
+set-17 w = omega arith
+
+pub level-without : (w : ℕ) → levelOf (withoutRemote w) ≡ levelOf w
+unfolding levelOf withoutRemote
+level-without w = rw (low-15 w)
+
+pub level-with : (w : ℕ) → levelOf (withRemote w) ≡ levelOf w
+unfolding levelOf withRemote
+level-with w = rw (set-15 w)
+
+module _ {w level held : ℕ} (g : PinGood w level held) where
+  without-good : PinGood (withoutRemote w) level held
+  unfolding withoutRemote
+  without-good =
+      record {
+        status = low-12 w ∙ g .status;
+        unused = low-17 w ∙ g .unused;
+        edge = λ e. g .edge (sym (level-without w) ∙ e);
+        level-fits = g .level-fits;
+        held-fits = g .held-fits;
+      }
+
+  with-good : PinGood (withRemote w) level held
+  unfolding withRemote
+  with-good =
+      record {
+        status = set-12 w ∙ g .status;
+        unused = set-17 w ∙ g .unused;
+        edge = λ e. g .edge (sym (level-with w) ∙ e);
+        level-fits = g .level-fits;
+        held-fits = g .held-fits;
+      }
+
+  drop-good : PinGood w level 0
+  drop-good = record { status = g .status; unused = g .unused; edge = λ e. refl; level-fits = g .level-fits; held-fits = refl }
+
+  ended-good : (v : ℕ) → PinGood (endedWord w v) level held
+  unfolding endedWord
+  ended-good v = go (levelOf w && eqb (vectorOf w) v)
+    where
+      go : (b : Bool) → PinGood (cond b (withoutRemote w) w) level held
+      go true = without-good
+      go false = g
+
+  -- an edge is made on an edge pin alone
+  wired-good : (after : ℕ) → leb after 1 ≡ true → PinGood w after (heldAfter w level after held)
+  unfolding heldAfter makesEdge
+  wired-good after l = go (levelOf w) refl
+    where
+      edges : Bool → ℕ
+      edges v = cond (not (maskedOf w) && not v && not (asserted w level) && asserted w after) 1 held
+
+      fits : (b : Bool) → leb (cond b 1 held) 1 ≡ true
+      fits true = refl
+      fits false = g .held-fits
+
+      none : (m x y : Bool) → cond (not m && false && x && y) 1 held ≡ held
+      none true x y = refl
+      none false x y = refl
+
+      go : (v : Bool) → levelOf w ≡ v → PinGood w after (cond (not (maskedOf w) && not (levelOf w) && not (asserted w level) && asserted w after) 1 held)
+      go true e =
+          record {
+            status = g .status;
+            unused = g .unused;
+            edge = λ t. rw (e, none (maskedOf w) (not (asserted w level)) (asserted w after)) (g .edge t);
+            level-fits = l;
+            held-fits = fits (not (maskedOf w) && not (levelOf w) && not (asserted w level) && asserted w after);
+          }
+      go false e =
+          record {
+            status = g .status;
+            unused = g .unused;
+            edge = λ t. clash (sym t ∙ e);
+            level-fits = l;
+            held-fits = fits (not (maskedOf w) && not (levelOf w) && not (asserted w level) && asserted w after);
+          }
+
+-- ---- a write
+
+fields-12 : (m a b d : ℕ) → m < 4096 → (m + a * 8192 + b * 32768 + d * 16384) / 4096 % 2 ≡ 0
+fields-12 m a b d h = omega arith
+
+fields-15 : (m a b d : ℕ) → m < 4096 → a < 2 → d < 2 → (m + a * 8192 + b * 32768 + d * 16384) / 32768 ≡ b
+fields-15 m a b d h i k = omega arith
+
+fields-17 : (m a b d : ℕ) → m < 4096 → a < 2 → b < 4 → d < 2 → (m + a * 8192 + b * 32768 + d * 16384) / 131072 ≡ 0
+fields-17 m a b d h i j k = omega arith
+
+two-of-four : (n : ℕ) → n % 4 % 2 ≡ n % 2
+two-of-four n = omega arith
+
+module _ (w v : ℕ) where
+  m-lt : v % 4096 < 4096
+  m-lt = mod-lt v (lit< tt)
+
+  a-lt : v / 8192 % 2 < 2
+  a-lt = mod-lt (v / 8192) (lit< tt)
+
+  b-lt : v / 32768 % 4 < 4
+  b-lt = mod-lt (v / 32768) (lit< tt)
+
+  d-lt : w / 16384 % 2 < 2
+  d-lt = mod-lt (w / 16384) (lit< tt)
+
+  -- the trigger after a write is the one written
+  pub level-written : levelOf (written w v) ≡ levelOf v
+  unfolding levelOf written writable
+  level-written = rw (fields-15 (v % 4096) (v / 8192 % 2) (v / 32768 % 4) (w / 16384 % 2) m-lt a-lt d-lt, two-of-four (v / 32768))
+
+  written-good : (level held : ℕ) → leb level 1 ≡ true → leb held 1 ≡ true → PinGood (written w v) level (heldAfterWrite (written w v) held)
+  unfolding written writable
+  written-good level held l h =
+      record {
+        status = fields-12 (v % 4096) (v / 8192 % 2) (v / 32768 % 4) (w / 16384 % 2) m-lt;
+        unused = fields-17 (v % 4096) (v / 8192 % 2) (v / 32768 % 4) (w / 16384 % 2) m-lt a-lt b-lt d-lt;
+        edge = λ e. rw e;
+        level-fits = l;
+        held-fits = fits (levelOf (written w v));
+      }
+    where
+      fits : (b : Bool) → leb (cond b 0 held) 1 ≡ true
+      fits true = refl
+      fits false = h
+
+-- ---- the table
+
+pick-ok : (b : Bool) (w x level held h : ℕ) → pinOk w level held ≡ true → (b ≡ true → pinOk x level h ≡ true) → pinOk (cond b x w) level (cond b h held) ≡ true
+pick-ok true w x level held h e f = f refl
+pick-ok false w x level held h e f = e
+
+pub reset-ok : entriesOk resetEntries ≡ true
+unfolding entriesOk allFrom pinOk wordOk levelOf
+reset-ok = refl
+
+pub levels-at : (l : List ℕ) → levelsOk l ≡ true → (i : ℕ) → i < 24 → leb (getD l i 0) 1 ≡ true
+unfolding levelsOk
+levels-at l = every-at (λ i. leb (getD l i 0) 1)
+
+pub levels-of : (l : List ℕ) → ((i : ℕ) → i < 24 → leb (getD l i 0) 1 ≡ true) → levelsOk l ≡ true
+unfolding levelsOk
+levels-of l = every-of (λ i. leb (getD l i 0) 1)
+
+module _ (e : Entries) (ok : entriesOk e ≡ true) where
+  pins-ok : (i : ℕ) → i < 24 → pinOkAt e i ≡ true
+  unfolding entriesOk
+  pins-ok = every-at (pinOkAt e) ok
+
+  pub pins-good : (i : ℕ) → i < 24 → PinGood (lowAt e i) (levelAt e i) (heldAt e i)
+  pins-good i l = good (lowAt e i) (levelAt e i) (heldAt e i) (pins-ok i l)
+
+  -- a well-formed controller's own levels are 0 or 1
+  pub own-levels-ok : levelsOk (e .level) ≡ true
+  own-levels-ok = levels-of (e .level) (λ i l. pins-good i l .level-fits)
+
+  pub ended-ok : (v : ℕ) → entriesOk (ended e v) ≡ true
+  unfolding entriesOk ended
+  ended-ok v =
+      every-of (pinOkAt (withLow e (pins (λ i. endedWord (lowAt e i) v))))
+      (λ i l. rw (getD-tab (λ i. endedWord (lowAt e i) v) 24 i 0 l) (pin-ok (endedWord (lowAt e i) v) (levelAt e i) (heldAt e i) (ended-good (pins-good i l) v)))
+
+  abbrev edges : List ℕ → ℕ → ℕ
+  edges l i = heldAfter (lowAt e i) (levelAt e i) (getD l i 0) (heldAt e i)
+
+  pub wired-ok : (l : List ℕ) → levelsOk l ≡ true → entriesOk (wired e l) ≡ true
+  unfolding entriesOk wired
+  wired-ok l fit =
+      every-of (pinOkAt (withLevel (withHeld e (pins (edges l))) l))
+      (λ i k. rw (getD-tab (edges l) 24 i 0 k) (pin-ok (lowAt e i) (getD l i 0) (edges l i) (wired-good (pins-good i k) (getD l i 0) (levels-at l fit i k))))
+
+  pub high-written-ok : (n v : ℕ) → entriesOk (highWritten e n v) ≡ true
+  unfolding entriesOk
+  high-written-ok n v = ok
+
+  module _ (z : Sized e) where
+    -- pin n has another word and held edge
+    abbrev at-pin : ℕ → ℕ → ℕ → Entries
+    at-pin n x h = withHeld (withLow e (set (e .low) n x)) (set (e .held) n h)
+
+    one-ok : (n x h : ℕ) → n < 24 → PinGood x (levelAt e n) h → entriesOk (at-pin n x h) ≡ true
+    unfolding entriesOk
+    one-ok n x h l g =
+        every-of (pinOkAt (at-pin n x h))
+        (λ i k. rw (getD-set (e .low) n i x 0 (rw (z .low) l), getD-set (e .held) n i h 0 (rw (z .held) l))
+        (pick-ok (eqb i n) (lowAt e i) x (levelAt e i) (heldAt e i) h (pins-ok i k) (λ t. rw (eqb-true i n t) (pin-ok x (levelAt e n) h g))))
+
+    pub low-written-ok : (n v : ℕ) → n < 24 → entriesOk (lowWritten e n v) ≡ true
+    unfolding lowWritten
+    low-written-ok n v l =
+        let g = pins-good n l in
+        one-ok n (written (lowAt e n) v) (heldAfterWrite (written (lowAt e n) v) (heldAt e n)) l (written-good (lowAt e n) v (levelAt e n) (heldAt e n) (g .level-fits) (g .held-fits))
+
+    pub taken-ok : (i : ℕ) → i < 24 → entriesOk (taken e i) ≡ true
+    unfolding taken
+    taken-ok i l = go (levelOf (lowAt e i))
+      where
+        go : (b : Bool) → entriesOk (cond b (withLow e (set (e .low) i (withRemote (lowAt e i)))) (withHeld e (set (e .held) i 0))) ≡ true
+        go true =
+            ap (λ (h : List ℕ). entriesOk (withHeld (withLow e (set (e .low) i (withRemote (lowAt e i)))) h)) (sym (set-getD (e .held) i 0))
+            ∙ one-ok i (withRemote (lowAt e i)) (heldAt e i) l (with-good (pins-good i l))
+        go false =
+            ap (λ (w : List ℕ). entriesOk (withHeld (withLow e w) (set (e .held) i 0))) (sym (set-getD (e .low) i 0))
+            ∙ one-ok i (lowAt e i) 0 l (drop-good (pins-good i l))
