@@ -42,6 +42,18 @@ pub not-both-of : (a b : Bool) → (a ≡ true → b ≡ false) → not (a && b)
 not-both-of true b f = rw (f refl)
 not-both-of false b f = refl
 
+-- ---- neither, either
+
+pub neither : (a b : Bool) → not a && not b ≡ true → a || b ≡ false
+neither true b e = sym e
+neither false true e = sym e
+neither false false e = refl
+
+pub either : (a b : Bool) → not a && not b ≡ false → a || b ≡ true
+either true b e = refl
+either false true e = refl
+either false false e = clash e
+
 -- ---- a test decided either way
 
 pub not-true-false : (a : Bool) → (a ≡ true → ⊥) → a ≡ false

@@ -1,0 +1,41 @@
+ghost use mathlib.Core.Path.{_≡_};
+ghost use Rattle.controller.specs.State.{resetController, wellFormed, refused};
+use crate::Controller;
+use crate::Turn;
+use answers::Answer;
+use answers::Refusal;
+use entries::Entries;
+
+impl Controller {
+    pub const LAST_ID: u32 = 15;
+
+    pub const LAST_INDEX: u32 = 255;
+
+    pub fn reset() -> Controller
+        ensures { λ r. ⌜ r ≡ resetController ⌝ }
+    {
+        Controller {
+            id: 0,
+            index: 0,
+            entries: Entries::reset(),
+        }
+    }
+
+    pub fn well_formed(self) -> bool
+        ensures { λ r. ⌜ r ≡ wellFormed self ⌝ }
+    {
+        let entries = self.entries;
+        (self.id <= Controller::LAST_ID)
+            & (self.index <= Controller::LAST_INDEX)
+            & entries.well_formed()
+    }
+
+    pub fn refused(self, refusal: Refusal) -> Turn
+        ensures { λ r. ⌜ r ≡ refused self refusal ⌝ }
+    {
+        Turn {
+            controller: self,
+            answer: Answer::Refused(refusal),
+        }
+    }
+}
