@@ -1,3 +1,5 @@
 pub mod State
 pub mod Window
 pub mod Steps
+pub mod Calls
+pub mod Sheet

@@ -1,0 +1,23 @@
+-- A refused call gives no value: read value 0, counts 0, no delivery. Any two results that one equation allows are equal.
+use mathlib.Core.Path.{_≡_, refl, sym, ap, _∙_}
+use Prim.Native.Nat.{ℕ}
+use Rattle.answers.specs.declared.Refusal.{Refusal}
+use Rattle.answers.specs.declared.Refusal.the-variants as refusal
+use Rattle.answers.specs.declared.Answer.{Answer}
+use Rattle.answers.specs.declared.Answer.the-variants as answer
+use Rattle.answers.specs.Numbers.{numberOf, bare, numbersOf}
+
+abbrev pub answerNumber : Answer → ℕ
+answerNumber a = numbersOf a .number
+
+pub refused-bare : (a : Answer) → (answerNumber a ≡ 0 → ⊥) → numbersOf a ≡ bare (answerNumber a)
+unfolding numbersOf
+refused-bare answer.Done f = absurd (f refl)
+refused-bare (answer.Value v) f = absurd (f refl)
+refused-bare (answer.Fired a b c) f = absurd (f refl)
+refused-bare (answer.Interrupt p v d l) f = absurd (f refl)
+refused-bare answer.Nothing f = absurd (f refl)
+refused-bare (answer.Refused r) f = refl
+
+pub one-result : {A : Type 0} {r s t : A} → r ≡ t → s ≡ t → r ≡ s
+one-result e f = e ∙ sym f
