@@ -59,6 +59,16 @@ small-index v = omega arith
 half : (i : ℕ) → i < 0x40 → (i - 0x10) / 2 < 24
 half i l = omega arith
 
+pub reading-same : (c : Controller) (w o : ℕ) → readingOf c w o .controller ≡ c
+unfolding readingOf
+reading-same c w o = go (eqb w 4) (eqb o 0) (eqb o 0x10)
+  where
+    go : (a b d : Bool) → cond a (cond b (turn c (answer.Value (c .index))) (cond d (turn c (answer.Value (dataRead c))) (refused c refusal.Offset))) (refused c refusal.Width) .controller ≡ c
+    go true true d = refl
+    go true false true = refl
+    go true false false = refl
+    go false b d = refl
+
 module _ (c : Controller) (e : wellFormed c ≡ true) (z : Sized (c .entries)) where
   f : Formed c
   f = formed c e
@@ -87,16 +97,6 @@ module _ (c : Controller) (e : wellFormed c ≡ true) (z : Sized (c .entries)) w
           let i = firstEligible (c .entries) in
           with-entries (taken (c .entries) i) (given (c .entries) i) (taken-ok (c .entries) (f .entries) z i (ltb-true i 24 t)) (taken-sized (c .entries) z i)
       go false t = record { formed = e; sized = z }
-
-  pub reading-keeps : (w o : ℕ) → readingOf c w o .controller ≡ c
-  unfolding readingOf
-  reading-keeps w o = go (eqb w 4) (eqb o 0) (eqb o 0x10)
-    where
-      go : (a b d : Bool) → cond a (cond b (turn c (answer.Value (c .index))) (cond d (turn c (answer.Value (dataRead c))) (refused c refusal.Offset))) (refused c refusal.Width) .controller ≡ c
-      go true true d = refl
-      go true false true = refl
-      go true false false = refl
-      go false b d = refl
 
   data-keeps : (v : ℕ) → Keeps (turn (dataWritten c v) answer.Done)
   unfolding dataWritten
@@ -144,7 +144,7 @@ Lent deliver = Unit {0}
 module _ (c : Controller) (e : wellFormed c ≡ true) (z : Sized (c .entries)) where
   pub keeps : (k : Call) → Lent k → Keeps (turnOf c k)
   unfolding turnOf readOf writeOf wireOf wiresOf endOf deliverOf
-  keeps (read w o) l = rw e (record { formed = ap wellFormed (reading-keeps c e z w o) ∙ e; sized = subst (λ (d : Controller). Sized (d .entries)) (sym (reading-keeps c e z w o)) z })
+  keeps (read w o) l = rw e (record { formed = ap wellFormed (reading-same c w o) ∙ e; sized = subst (λ (d : Controller). Sized (d .entries)) (sym (reading-same c w o)) z })
   keeps (write w o v) l = rw e (writing-keeps c e z w o v)
   keeps (wire p x) l = rw e (go (ltb p 24) (leb x 1) refl)
     where

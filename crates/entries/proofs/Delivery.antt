@@ -1,7 +1,7 @@
 -- What a delivery, a read and each step do to eligibility and to held edges.
 use mathlib.Core.Path.{_≡_, refl, sym, ap, _∙_}
 use mathlib.Core.Bool.{Bool, true, false, not, cond, _&&_, _||_}
-use Prim.Native.Nat.{ℕ, _+_, _-_, _*_, _/_, _%_, _<_}
+use Prim.Native.Nat.{ℕ, _+_, _-_, _*_, _/_, _%_, _<_, _≤_}
 use native.Mathlib.Omega.{arith}
 use native.Mathlib.Decide.{ℕ-discrete}
 use mir.Val.{boolByte}
@@ -24,6 +24,10 @@ abbrev pub Lowest : Entries → ℕ → Type 0
 Lowest e i = First (eligibleAt e) i
 
 module _ (e : Entries) where
+  pub first-le-24 : firstEligible e ≤ 24
+  unfolding firstEligible
+  first-le-24 = first-le (eligibleAt e)
+
   pub lowest-found : (i : ℕ) → i < 24 → firstEligible e ≡ i → Lowest e i
   unfolding firstEligible
   lowest-found = first-found (eligibleAt e)

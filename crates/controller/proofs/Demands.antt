@@ -1,0 +1,291 @@
+-- What the controller owes, with the paper's sentence above each.
+use mathlib.Core.Path.{_≡_, refl, sym, ap, subst, _∙_}
+use mathlib.Core.Bool.{Bool, true, false, not, cond, _||_}
+use mathlib.Core.List.{List, [], _∷_}
+use Prim.Native.Nat.{ℕ, _+_, _-_, _*_, _/_, _%_, _^_, _<_, _≤_}
+use native.Mathlib.Omega.{arith}
+use native.Mathlib.Decide.{ℕ-discrete}
+use mir.Val.{boolByte}
+use lib.Dec.{T, eqb, leb, ltb}
+use lib.ListN.{getD, set}
+use borrow.Author.Tests.{lt-ltb, le-ltb, lt-leb, ltb-true, ltb-false, leb-false, eqb-true, eq-eqb, ne-eqb}
+use Rattle.answers.specs.declared.Answer.{Answer}
+use Rattle.answers.specs.declared.Answer.the-variants as answer
+use Rattle.answers.specs.declared.Refusal.the-variants as refusal
+use Rattle.answers.specs.declared.Numbers.{Numbers}
+use Rattle.answers.specs.Numbers.{numberOf, bare, numbersOf}
+use Rattle.answers.specs.Order.{Test, test, firstNumber, Given}
+use Rattle.answers.proofs.Order.{only-if, if}
+use Rattle.answers.proofs.Refused.{answerNumber, refused-bare, one-result}
+use Rattle.pins.proofs.Bools.{not-true-false}
+use Rattle.entries.specs.declared.Entries.{Entries}
+use Rattle.entries.specs.Word.{levelOf}
+use Rattle.entries.specs.Table.{levelsOk, firstEligible, eligibleAt, heldAt, wired, ended, given, taken, lowShown, lowWritten, highWritten}
+use Rattle.entries.proofs.Sized.{Sized}
+use Rattle.entries.proofs.Pulse.{wired-keeps}
+use Rattle.entries.proofs.Delivery.{Lowest, first-le-24, lowest-found, lowest-of, none-eligible, none-eligible-of, ended-held, taken-held, low-written-held-other, low-written-held, bit-12}
+use Rattle.controller.specs.declared.Controller.{Controller}
+use Rattle.controller.specs.declared.Turn.{Turn}
+use Rattle.controller.specs.State.{withId, withIndex, withEntries, wellFormed, turn, refused}
+use Rattle.controller.specs.Window.{dataRead, dataWritten, entryWritten, readingOf, writingOf, readOf, writeOf}
+use Rattle.controller.specs.Steps.{rewired, wireOf, wiresOf, afterEnd, endOf, deliveringOf, deliverOf}
+use Rattle.controller.specs.Calls.{Call, read, write, wire, wires, end, deliver, turnOf, testsOf}
+use Rattle.controller.proofs.Formed.{Formed, formed, reading-same}
+
+-- ---- refusals
+
+record Decided (c : Controller) (ts : List Test) (t : Turn) : Type 0 where
+  number : answerNumber (t .answer) ≡ firstNumber ts
+  same : (answerNumber (t .answer) ≡ 0 → ⊥) → t .controller ≡ c
+
+decided : (c : Controller) (k : Call) → Decided c (testsOf c k) (turnOf c k)
+unfolding turnOf testsOf firstNumber readOf readingOf writeOf writingOf wireOf wiresOf endOf deliverOf deliveringOf numbersOf numberOf
+decided c (read w o) = go (wellFormed c) (eqb w 4) (eqb o 0) (eqb o 0x10)
+  where
+    go :
+        (f a b d : Bool) →
+        Decided c (test 5 (not f) ∷ test 2 (not a) ∷ test 1 (not (b || d)) ∷ [])
+        (cond f (cond a (cond b (turn c (answer.Value (c .index))) (cond d (turn c (answer.Value (dataRead c))) (refused c refusal.Offset))) (refused c refusal.Width)) (refused c refusal.State))
+    go true true true d = record { number = refl; same = λ n. refl }
+    go true true false true = record { number = refl; same = λ n. refl }
+    go true true false false = record { number = refl; same = λ n. refl }
+    go true false b d = record { number = refl; same = λ n. refl }
+    go false a b d = record { number = refl; same = λ n. refl }
+decided c (write w o v) = go (wellFormed c) (eqb w 4) (eqb o 0 || eqb o 0x10) (ltb v (2 ^ 32)) (cond (eqb o 0) (withIndex c (v % 256)) (dataWritten c v))
+  where
+    go :
+        (f a b d : Bool) (n : Controller) →
+        Decided c (test 5 (not f) ∷ test 2 (not a) ∷ test 1 (not b) ∷ test 4 (not d) ∷ [])
+        (cond f (cond a (cond b (cond d (turn n answer.Done) (refused c refusal.Value)) (refused c refusal.Offset)) (refused c refusal.Width)) (refused c refusal.State))
+    go true true true true n = record { number = refl; same = λ x. absurd (x refl) }
+    go true true true false n = record { number = refl; same = λ x. refl }
+    go true true false d n = record { number = refl; same = λ x. refl }
+    go true false b d n = record { number = refl; same = λ x. refl }
+    go false a b d n = record { number = refl; same = λ x. refl }
+decided c (wire p l) = go (wellFormed c) (ltb p 24) (leb l 1) (rewired c (set (c .entries .level) p l))
+  where
+    go :
+        (f a b : Bool) (n : Controller) →
+        Decided c (test 5 (not f) ∷ test 3 (not a) ∷ test 4 (not b) ∷ [])
+        (cond f (cond a (cond b (turn n answer.Done) (refused c refusal.Level)) (refused c refusal.Pin)) (refused c refusal.State))
+    go true true true n = record { number = refl; same = λ x. absurd (x refl) }
+    go true true false n = record { number = refl; same = λ x. refl }
+    go true false b n = record { number = refl; same = λ x. refl }
+    go false a b n = record { number = refl; same = λ x. refl }
+decided c (wires l) = go (wellFormed c) (levelsOk l) (rewired c l)
+  where
+    go :
+        (f a : Bool) (n : Controller) →
+        Decided c (test 5 (not f) ∷ test 4 (not a) ∷ []) (cond f (cond a (turn n answer.Done) (refused c refusal.Level)) (refused c refusal.State))
+    go true true n = record { number = refl; same = λ x. absurd (x refl) }
+    go true false n = record { number = refl; same = λ x. refl }
+    go false a n = record { number = refl; same = λ x. refl }
+decided c (end v) = go (wellFormed c) (afterEnd c v)
+  where
+    go : (f : Bool) (n : Controller) → Decided c (test 5 (not f) ∷ []) (cond f (turn n answer.Done) (refused c refusal.State))
+    go true n = record { number = refl; same = λ x. absurd (x refl) }
+    go false n = record { number = refl; same = λ x. refl }
+decided c deliver = go (wellFormed c) (ltb (firstEligible (c .entries)) 24) (firstEligible (c .entries))
+  where
+    go :
+        (f a : Bool) (i : ℕ) →
+        Decided c (test 5 (not f) ∷ []) (cond f (cond a (turn (withEntries c (taken (c .entries) i)) (given (c .entries) i)) (turn c answer.Nothing)) (refused c refusal.State))
+    go true true i = record { number = refl; same = λ x. absurd (x refl) }
+    go true false i = record { number = refl; same = λ x. refl }
+    go false a i = record { number = refl; same = λ x. refl }
+
+module _ (c : Controller) (k : Call) where
+  -- "Given exactly when": a number is given if and only if its test holds and none before it does
+  pub number-only-if : (n : ℕ) → answerNumber (turnOf c k .answer) ≡ n → Given (testsOf c k) n
+  number-only-if = only-if (testsOf c k) (answerNumber (turnOf c k .answer)) (decided c k .number)
+
+  pub number-if : (n : ℕ) → Given (testsOf c k) n → answerNumber (turnOf c k .answer) ≡ n
+  number-if = if (testsOf c k) (answerNumber (turnOf c k .answer)) (decided c k .number)
+
+  -- "same state"
+  pub refused-same : (answerNumber (turnOf c k .answer) ≡ 0 → ⊥) → turnOf c k .controller ≡ c
+  refused-same = decided c k .same
+
+  -- "read value 0, no delivery"
+  pub refused-empty : (answerNumber (turnOf c k .answer) ≡ 0 → ⊥) → numbersOf (turnOf c k .answer) ≡ bare (answerNumber (turnOf c k .answer))
+  refused-empty = refused-bare (turnOf c k .answer)
+
+  -- "any two results allowed are equal"
+  pub one-turn : (r s : Turn) → r ≡ turnOf c k → s ≡ turnOf c k → r ≡ s
+  one-turn r s = one-result
+
+-- ---- delivery: "the lowest-numbered eligible pin"; "No eligible pin: none, same state"
+
+given-pin : (e : Entries) (i p : ℕ) → given e i ≡ given e p → i ≡ p
+unfolding numbersOf
+given-pin e i p q = ap (λ (a : Answer). numbersOf a .pin) q
+
+not-nothing : {A : Type 0} (e : Entries) (p : ℕ) → answer.Nothing ≡ given e p → A
+unfolding numbersOf
+not-nothing e p q = absurd (subst one (ap (λ (a : Answer). numbersOf a .delivered) q) tt)
+  where
+    one : ℕ → Type 0
+    one n = T (eqb n 0)
+
+not-refused : {A : Type 0} (e : Entries) (p : ℕ) → answer.Refused refusal.State ≡ given e p → A
+unfolding numbersOf numberOf
+not-refused e p q = absurd (subst five (ap answerNumber q) tt)
+  where
+    five : ℕ → Type 0
+    five n = T (eqb n 5)
+
+refused-not-nothing : {A : Type 0} → answer.Refused refusal.State ≡ answer.Nothing → A
+unfolding numbersOf numberOf
+refused-not-nothing q = absurd (subst five (ap answerNumber q) tt)
+  where
+    five : ℕ → Type 0
+    five n = T (eqb n 5)
+
+module _ (c : Controller) where
+  abbrev e : Entries
+  e = c .entries
+
+  pub delivers-if : (p : ℕ) → wellFormed c ≡ true → p < 24 → Lowest e p → deliverOf c ≡ turn (withEntries c (taken e p)) (given e p)
+  unfolding deliverOf deliveringOf
+  delivers-if p w l low = rw (w, lowest-of e p l low, lt-ltb p 24 l)
+
+  pub delivers-only-if : (p : ℕ) → deliverOf c .answer ≡ given e p → (wellFormed c ≡ true) × (p < 24) × Lowest e p
+  unfolding deliverOf deliveringOf
+  delivers-only-if p = go (wellFormed c) refl (ltb (firstEligible e) 24) refl
+    where
+      go :
+          (w : Bool) → wellFormed c ≡ w → (b : Bool) → ltb (firstEligible e) 24 ≡ b →
+          cond w (cond b (turn (withEntries c (taken e (firstEligible e))) (given e (firstEligible e))) (turn c answer.Nothing)) (refused c refusal.State) .answer ≡ given e p →
+          (wellFormed c ≡ true) × (p < 24) × Lowest e p
+      go true x true y q =
+          let f = given-pin e (firstEligible e) p q in
+          let l : p < 24 = subst (λ (i : ℕ). i < 24) f (ltb-true (firstEligible e) 24 y) in
+          (x, l, lowest-found e p l f)
+      go true x false y q = not-nothing e p q
+      go false x b y q = not-refused e p q
+
+  pub none-if : wellFormed c ≡ true → ((p : ℕ) → p < 24 → eligibleAt e p ≡ false) → deliverOf c ≡ turn c answer.Nothing
+  unfolding deliverOf deliveringOf
+  none-if w n = rw (w, none-eligible-of e n)
+
+  pub none-only-if : deliverOf c .answer ≡ answer.Nothing → (wellFormed c ≡ true) × ((p : ℕ) → p < 24 → eligibleAt e p ≡ false)
+  unfolding deliverOf deliveringOf
+  none-only-if = go (wellFormed c) refl (ltb (firstEligible e) 24) refl
+    where
+      go :
+          (w : Bool) → wellFormed c ≡ w → (b : Bool) → ltb (firstEligible e) 24 ≡ b →
+          cond w (cond b (turn (withEntries c (taken e (firstEligible e))) (given e (firstEligible e))) (turn c answer.Nothing)) (refused c refusal.State) .answer ≡ answer.Nothing →
+          (wellFormed c ≡ true) × ((p : ℕ) → p < 24 → eligibleAt e p ≡ false)
+      go true x true y q = not-nothing e (firstEligible e) (sym q)
+      go true x false y q = (x, none-eligible e (ends (firstEligible e) (first-le-24 e) (ltb-false (firstEligible e) 24 y)))
+        where
+          ends : (i : ℕ) → i ≤ 24 → 24 ≤ i → i ≡ 24
+          ends i a b = omega arith
+      go false x b y q = refused-not-nothing q
+
+-- ---- "If it leaves the pin level, a held edge is dropped; otherwise the held edge stays, masked or not"; "An edge pin loses its held edge"
+
+-- what loses pin p's held edge: its delivery, or a low-word write that leaves the pin level
+pub data Loses (c : Controller) (p : ℕ) : Call → Type 0 where
+  delivered : deliverOf c .answer ≡ given (c .entries) p → Loses c p deliver
+  made-level : (w o v : ℕ) → w ≡ 4 → o ≡ 0x10 → c .index ≡ 0x10 + 2 * p → levelOf v ≡ true → Loses c p (write w o v)
+
+index-is : (i p : ℕ) → 0x10 ≤ i → (i - 0x10) % 2 ≡ 0 → p ≡ (i - 0x10) / 2 → i ≡ 0x10 + 2 * p
+index-is i p a b e = omega arith
+
+module _ (c : Controller) (z : Sized (c .entries)) (p : ℕ) (l : p < 24) (h : heldAt (c .entries) p ≡ 1) where
+  abbrev n : ℕ
+  n = (c .index - 0x10) / 2
+
+  low-kept : (v : ℕ) → (p ≡ n → levelOf v ≡ false) → heldAt (lowWritten (c .entries) n v) p ≡ 1
+  low-kept v f = go (ℕ-discrete p n)
+    where
+      go : Dec (p ≡ n) → heldAt (lowWritten (c .entries) n v) p ≡ 1
+      go (yes q) = subst (λ (m : ℕ). heldAt (lowWritten (c .entries) m v) p ≡ 1) q (low-written-held (c .entries) z p v l (f q) ∙ h)
+      go (no q) = low-written-held-other (c .entries) n p q v ∙ h
+
+  data-kept : (v : ℕ) → (c .index ≡ 0x10 + 2 * p → levelOf v ≡ true → ⊥) → heldAt (dataWritten c v .entries) p ≡ 1
+  unfolding dataWritten
+  data-kept v f = go (eqb (c .index) 0) (ltb (c .index) 0x10) refl (leb 0x40 (c .index)) (eqb ((c .index - 0x10) % 2) 0) refl
+    where
+      go :
+          (a b : Bool) → ltb (c .index) 0x10 ≡ b → (d m : Bool) → eqb ((c .index - 0x10) % 2) 0 ≡ m →
+          heldAt (cond a (withId c (v / 2 ^ 24 % 16)) (cond b c (cond d c (withEntries c (cond m (lowWritten (c .entries) n v) (highWritten (c .entries) n v))))) .entries) p ≡ 1
+      go true b x d m y = h
+      go false true x d m y = h
+      go false false x true m y = h
+      go false false x false true y =
+          low-kept v
+          (λ q. not-true-false (levelOf v)
+          (f (index-is (c .index) p (ltb-false (c .index) 0x10 x) (eqb-true ((c .index - 0x10) % 2) 0 y) q)))
+      go false false x false false y = h
+
+  pub held-kept : (k : Call) → (Loses c p k → ⊥) → heldAt (turnOf c k .controller .entries) p ≡ 1
+  unfolding turnOf readOf writeOf writingOf wireOf wiresOf endOf deliverOf deliveringOf
+  held-kept (read w o) f = go (wellFormed c)
+    where
+      go : (b : Bool) → heldAt (cond b (readingOf c w o) (refused c refusal.State) .controller .entries) p ≡ 1
+      go true = ap (λ (d : Controller). heldAt (d .entries) p) (reading-same c w o) ∙ h
+      go false = h
+  held-kept (write w o v) f = go (wellFormed c) (eqb w 4) refl (eqb o 0) (eqb o 0x10) refl (ltb v (2 ^ 32))
+    where
+      go :
+          (b a : Bool) → eqb w 4 ≡ a → (x y : Bool) → eqb o 0x10 ≡ y → (s : Bool) →
+          heldAt (cond b (cond a (cond (x || y) (cond s (turn (cond x (withIndex c (v % 256)) (dataWritten c v)) answer.Done) (refused c refusal.Value)) (refused c refusal.Offset)) (refused c refusal.Width)) (refused c refusal.State) .controller .entries) p ≡ 1
+      go true true q true y r true = h
+      go true true q true y r false = h
+      go true true q false true r true = data-kept v (λ i t. f (made-level w o v (eqb-true w 4 q) (eqb-true o 0x10 r) i t))
+      go true true q false true r false = h
+      go true true q false false r s = h
+      go true false q x y r s = h
+      go false a q x y r s = h
+  held-kept (wire i x) f = go (wellFormed c) (ltb i 24) (leb x 1)
+    where
+      go :
+          (b a d : Bool) →
+          heldAt (cond b (cond a (cond d (turn (rewired c (set (c .entries .level) i x)) answer.Done) (refused c refusal.Level)) (refused c refusal.Pin)) (refused c refusal.State) .controller .entries) p ≡ 1
+      go true true true = wired-keeps (c .entries) (set (c .entries .level) i x) p l h
+      go true true false = h
+      go true false d = h
+      go false a d = h
+  held-kept (wires x) f = go (wellFormed c) (levelsOk x)
+    where
+      go : (b a : Bool) → heldAt (cond b (cond a (turn (rewired c x) answer.Done) (refused c refusal.Level)) (refused c refusal.State) .controller .entries) p ≡ 1
+      go true true = wired-keeps (c .entries) x p l h
+      go true false = h
+      go false a = h
+  held-kept (end v) f = go (wellFormed c)
+    where
+      go : (b : Bool) → heldAt (cond b (turn (afterEnd c v) answer.Done) (refused c refusal.State) .controller .entries) p ≡ 1
+      go true = ap (λ (x : List ℕ). getD x p 0) (ended-held (c .entries) v) ∙ h
+      go false = h
+  held-kept deliver f = go (wellFormed c) refl (ltb (firstEligible (c .entries)) 24) refl
+    where
+      answers : (b a : Bool) → Turn
+      answers b a = cond b (cond a (turn (withEntries c (taken (c .entries) (firstEligible (c .entries)))) (given (c .entries) (firstEligible (c .entries)))) (turn c answer.Nothing)) (refused c refusal.State)
+
+      here : wellFormed c ≡ true → p ≡ firstEligible (c .entries) → Loses c p deliver
+      here x q = delivered (ap (λ (t : Turn). t .answer) (delivers-if c p x l (lowest-found (c .entries) p l (sym q))))
+
+      go : (b : Bool) → wellFormed c ≡ b → (a : Bool) → ltb (firstEligible (c .entries)) 24 ≡ a → heldAt (answers b a .controller .entries) p ≡ 1
+      go true x true y = other (ℕ-discrete p (firstEligible (c .entries)))
+        where
+          other : Dec (p ≡ firstEligible (c .entries)) → heldAt (taken (c .entries) (firstEligible (c .entries))) p ≡ 1
+          other (yes q) = absurd (f (here x q))
+          other (no q) = taken-held (c .entries) (firstEligible (c .entries)) p q ∙ h
+      go true x false y = h
+      go false x a y = h
+
+-- ---- "Bit 12 reads 1 exactly for an eligible pin"
+
+module _ (c : Controller) (w : wellFormed c ≡ true) (i : ℕ) (l : i < 24) (at : c .index ≡ 0x10 + 2 * i) where
+  low-read : dataRead c ≡ lowShown (c .entries) i
+  unfolding dataRead
+  low-read =
+      let half : (0x10 + 2 * i - 0x10) / 2 ≡ i = omega arith in
+      let even : (0x10 + 2 * i - 0x10) % 2 ≡ 0 = omega arith in
+      rw (at, ne-eqb (0x10 + 2 * i) 0 (omega arith), ne-eqb (0x10 + 2 * i) 1 (omega arith), ne-eqb (0x10 + 2 * i) 2 (omega arith), le-ltb (0x10 + 2 * i) 0x10 (omega arith), lt-leb 0x40 (0x10 + 2 * i) (omega arith), even, half)
+
+  pub status-read : numbersOf (readOf c 4 0x10 .answer) .value / 4096 % 2 ≡ boolByte (eligibleAt (c .entries) i)
+  unfolding readOf readingOf numbersOf
+  status-read = rw (w, low-read) (bit-12 (c .entries) (formed c w .entries) i l)
