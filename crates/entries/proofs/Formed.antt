@@ -194,7 +194,7 @@ module _ (w v : ℕ) where
       record {
         status = fields-12 (v % 4096) (v / 8192 % 2) (v / 32768 % 4) (w / 16384 % 2) m-lt;
         unused = fields-17 (v % 4096) (v / 8192 % 2) (v / 32768 % 4) (w / 16384 % 2) m-lt a-lt b-lt d-lt;
-        edge = λ e. rw e;
+        edge = λ t. ap (λ (b : Bool). eqb (cond b 0 held) 1) t;
         level-fits = l;
         held-fits = fits (levelOf (written w v));
       }
