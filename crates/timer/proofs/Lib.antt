@@ -1,0 +1,5 @@
+pub mod Width
+pub mod Closed
+pub mod Ran
+pub mod Bits
+pub mod Written
