@@ -42,7 +42,7 @@ fn reduced(narrow: bool, x: u64) -> u64
 }
 
 // Bit k of v.
-fn bit(v: u64, k: u32) -> u8
+pub fn bit(v: u64, k: u32) -> u8
     requires { ⌜ k < 64 ⌝ }
     ensures { λ r. ⌜ r ≡ bit k v ⌝ }
 {
@@ -50,7 +50,7 @@ fn bit(v: u64, k: u32) -> u8
 }
 
 // Bit k by itself, where the flag is set.
-fn placed(f: u8, k: u32) -> u64
+pub fn placed(f: u8, k: u32) -> u64
     requires { ⌜ k < 64 ⌝ }
     ensures { λ r. ⌜ r ≡ boolByte (flag f) * 2 ^ k ⌝ }
 {

@@ -1,5 +1,4 @@
 use mathlib.Core.Path.{refl}
-use Rattle.timer.specs.State.{blank}
 use Rattle.timer.proofs.Timer.blank.Statement.{statement}
 use Rattle.timer.proofs.Timer.blank.Tie as tie
 use Rattle.timer.proofs.Timer.blank.Reads as reads
@@ -7,7 +6,6 @@ use Rattle.timer.proofs.Timer.blank.Lts as lts
 
 -- src/lib.rt:99:5
 returns : tie.Need-returns
-unfolding blank
 returns c = refl
 
 pub blank-spec : {M : Type 1} → statement M

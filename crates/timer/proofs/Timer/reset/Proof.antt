@@ -1,5 +1,5 @@
 use mathlib.Core.Path.{refl}
-use Rattle.timer.specs.State.{blank, resetTimer}
+use Rattle.timer.specs.State.{resetTimer}
 use Rattle.timer.proofs.Timer.reset.Statement.{statement}
 use Rattle.timer.proofs.Timer.reset.Tie as tie
 use Rattle.timer.proofs.Timer.reset.Reads as reads
@@ -7,7 +7,7 @@ use Rattle.timer.proofs.Timer.reset.Lts as lts
 
 -- src/lib.rt:116:5
 returns : tie.Need-returns
-unfolding blank resetTimer
+unfolding resetTimer
 returns c = refl
 
 pub reset-spec : {M : Type 1} → statement M
