@@ -1,0 +1,72 @@
+-- A configuration put together of its bits.
+use Prim.Native.Nat.{ℕ, _+_, _*_, _%_, _^_, _<_, _≤_}
+use mathlib.Core.Path.{_≡_, refl, ap, _∙_}
+use mathlib.Core.Bool.{Bool, true, false}
+use native.Mathlib.Nat.{mod-eq-of-lt}
+use native.Mathlib.Omega.{arith}
+use lib.Bits.{bitOr, or-shifted, or-shifted-r}
+use lib.Pow.{shl-exact}
+use lib.Dec.{lit<}
+use mir.Val.{boolByte}
+use Rattle.timer.specs.declared.Timer.{Timer}
+use Rattle.timer.specs.State.{flag}
+use Rattle.timer.specs.Registers.{placed, configurationOf}
+
+byte-lt : (b : Bool) → boolByte b < 2 ^ 1
+byte-lt true = lit< tt
+byte-lt false = lit< tt
+
+-- a bit in its place
+pub placed-exact : (b : Bool) (k : ℕ) → k < 64 → boolByte b * 2 ^ k % 2 ^ 64 ≡ boolByte b * 2 ^ k
+placed-exact b k l = shl-exact 1 k 64 (byte-lt b) (omega arith)
+
+abbrev parts : ℕ → ℕ → ℕ → ℕ → ℕ → ℕ → ℕ
+parts r n s p i l = bitOr (bitOr (r * 512 % 2 ^ 64) (bitOr n (bitOr s (bitOr (bitOr p (bitOr i l)) 48)))) 0x00FFFFFF00000000
+
+-- each part lies above those to its right
+together :
+    (r n s p i l : ℕ) → r < 2 ^ 16 → n < 2 → s < 2 → p < 2 → i < 2 → l < 2 →
+    parts r (n * 2 ^ 8) (s * 2 ^ 6) (p * 2 ^ 3) (i * 2 ^ 2) (l * 2 ^ 1)
+    ≡ 0x00FFFFFF * 2 ^ 32 + (r * 2 ^ 9 + (n * 2 ^ 8 + (s * 2 ^ 6 + (3 * 2 ^ 4 + (p * 2 ^ 3 + (i * 2 ^ 2 + l * 2 ^ 1))))))
+together r n s p i l hr hn hs hp hi hl =
+    ap (λ (x : ℕ). bitOr (bitOr (r * 512 % 2 ^ 64) (bitOr (n * 2 ^ 8) (bitOr (s * 2 ^ 6) (bitOr (bitOr (p * 2 ^ 3) x) 48)))) top) (or-shifted i 2 (l * 2 ^ 1) (omega arith))
+    ∙ ap (λ (x : ℕ). bitOr (bitOr (r * 512 % 2 ^ 64) (bitOr (n * 2 ^ 8) (bitOr (s * 2 ^ 6) (bitOr x 48)))) top) (or-shifted p 3 x1 (omega arith))
+    ∙ ap (λ (x : ℕ). bitOr (bitOr (r * 512 % 2 ^ 64) (bitOr (n * 2 ^ 8) (bitOr (s * 2 ^ 6) x))) top) (or-shifted-r 3 4 x2 (omega arith))
+    ∙ ap (λ (x : ℕ). bitOr (bitOr (r * 512 % 2 ^ 64) (bitOr (n * 2 ^ 8) x)) top) (or-shifted s 6 x3 (omega arith))
+    ∙ ap (λ (x : ℕ). bitOr (bitOr (r * 512 % 2 ^ 64) x) top) (or-shifted n 8 x4 (omega arith))
+    ∙ ap (λ (x : ℕ). bitOr (bitOr x x5) top) (mod-eq-of-lt {n = r * 512} {m = 2 ^ 64} (omega arith))
+    ∙ ap (λ (x : ℕ). bitOr x top) (or-shifted r 9 x5 (omega arith))
+    ∙ or-shifted-r 0x00FFFFFF 32 x6 (omega arith)
+  where
+    top : ℕ
+    top = 0x00FFFFFF00000000
+
+    x1 : ℕ
+    x1 = i * 2 ^ 2 + l * 2 ^ 1
+
+    x2 : ℕ
+    x2 = p * 2 ^ 3 + x1
+
+    x3 : ℕ
+    x3 = 3 * 2 ^ 4 + x2
+
+    x4 : ℕ
+    x4 = s * 2 ^ 6 + x3
+
+    x5 : ℕ
+    x5 = n * 2 ^ 8 + x4
+
+    x6 : ℕ
+    x6 = r * 2 ^ 9 + x5
+
+bit-lt : (f : ℕ) → boolByte (flag f) < 2
+bit-lt f = byte-lt (flag f)
+
+pub configuration-code :
+    (t : Timer) (n s p i l : ℕ) → t .route < 2 ^ 16 → n ≡ placed 8 (t .narrow) → s ≡ placed 6 (t .«set_comparator») → p ≡ placed 3 (t .periodic) →
+    i ≡ placed 2 (t .interrupt) → l ≡ placed 1 (t .«level_type») → parts (t .route) n s p i l ≡ configurationOf t
+unfolding configurationOf
+configuration-code t n s p i l hr en es ep ei el =
+    (λ j. parts (t .route) (en j) (es j) (ep j) (ei j) (el j))
+    ∙ together (t .route) (boolByte (flag (t .narrow))) (boolByte (flag (t .«set_comparator»))) (boolByte (flag (t .periodic))) (boolByte (flag (t .interrupt))) (boolByte (flag (t .«level_type»)))
+    hr (bit-lt (t .narrow)) (bit-lt (t .«set_comparator»)) (bit-lt (t .periodic)) (bit-lt (t .interrupt)) (bit-lt (t .«level_type»))

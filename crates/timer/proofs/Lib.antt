@@ -1,0 +1,18 @@
+-- Laws of one timer.
+--   Width    comparator facts, once over the width
+--   Closed   the closed form is the ticks, at both widths
+--   Ran      what the proofs of the functions cite of it
+--   Alone    the ticks of one timer by itself, one by one
+--   Wire     what a firing does to the wire of its pin: `risen`
+--   Formed   well-formedness: from the test to the facts and back
+--   Kept     what keeps it
+--   Bits, Written   register words as the code makes them
+pub mod Width
+pub mod Closed
+pub mod Ran
+pub mod Alone
+pub mod Wire
+pub mod Formed
+pub mod Kept
+pub mod Bits
+pub mod Written

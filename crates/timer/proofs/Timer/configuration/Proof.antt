@@ -1,0 +1,53 @@
+use Prim.Native.Nat.{_^_, _<_}
+use native.Mathlib.Omega.{arith}
+use Rattle.timer.proofs.Bits.{configuration-code}
+use borrow.Author.Needs.{needs}
+use Rattle.timer.proofs.Timer.configuration.Statement.{statement}
+use Rattle.timer.proofs.Timer.configuration.Tie as tie
+use Rattle.timer.proofs.Timer.configuration.Reads as reads
+use Rattle.timer.proofs.Timer.configuration.Lts as lts
+use Rattle.timer.proofs.placed.Reads as placed-reads
+
+-- src/lib.rt:261:19
+placed-requires : tie.Need-placed-requires
+placed-requires c κs = search needs
+
+-- src/lib.rt:262:16
+placed-requires-2 : tie.Need-placed-requires-2
+placed-requires-2 c κs = search needs
+
+-- src/lib.rt:262:44
+placed-requires-3 : tie.Need-placed-requires-3
+placed-requires-3 c κs = search needs
+
+-- src/lib.rt:263:20
+placed-requires-4 : tie.Need-placed-requires-4
+placed-requires-4 c κs = search needs
+
+-- src/lib.rt:263:46
+placed-requires-5 : tie.Need-placed-requires-5
+placed-requires-5 c κs = search needs
+
+-- src/lib.rt:264:12
+cast-result : tie.Need-cast-result
+cast-result c = search needs
+
+-- src/lib.rt:258:5
+returns : tie.Need-returns
+returns c = let a = c .before in
+    let s = a .before .before .before .before .before in
+    let k : s .args .self .route < 2 ^ 16 = omega arith in
+    configuration-code (s .args .self) (a .before .placed4 .result) (a .placed5 .result) (a .before .before .before .before .placed .result) (a .before .before .before .placed2 .result) (a .before .before .placed3 .result) k
+    (a .before .placed4 .ensures) (a .placed5 .ensures) (a .before .before .before .before .placed .ensures) (a .before .before .before .placed2 .ensures) (a .before .before .placed3 .ensures)
+
+pub configuration-spec : {M : Type 1} → statement M
+configuration-spec =
+    tie.close
+    (tie.spec
+    placed-requires
+    placed-requires-2
+    placed-requires-3
+    placed-requires-4
+    placed-requires-5
+    cast-result
+    returns)

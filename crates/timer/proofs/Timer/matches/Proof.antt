@@ -1,0 +1,23 @@
+use Rattle.timer.specs.Tick.{meets}
+use borrow.Author.Needs.{needs}
+use Rattle.timer.proofs.Timer.matches.Statement.{statement}
+use Rattle.timer.proofs.Timer.matches.Tie as tie
+use Rattle.timer.proofs.Timer.matches.Reads as reads
+use Rattle.timer.proofs.Timer.matches.Lts as lts
+use Rattle.timer.proofs.reduced.Reads as reduced-reads
+
+-- src/lib.rt:162:9
+reduced-requires : tie.Need-reduced-requires
+reduced-requires c κs = search needs
+
+-- src/lib.rt:162:37
+reduced-requires-2 : tie.Need-reduced-requires-2
+reduced-requires-2 c κs = search needs
+
+-- src/lib.rt:158:5
+returns : tie.Need-returns
+unfolding meets
+returns c = rw (c .before .reduced .ensures, c .reduced2 .ensures)
+
+pub matches-spec : {M : Type 1} → statement M
+matches-spec = tie.close (tie.spec reduced-requires reduced-requires-2 returns)

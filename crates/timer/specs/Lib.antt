@@ -1,0 +1,6 @@
+pub mod State
+pub mod Formed
+pub mod Registers
+pub mod Tick
+pub mod Alone
+pub mod Closed

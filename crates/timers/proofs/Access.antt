@@ -1,0 +1,184 @@
+-- Accesses as the code takes them: by the offset, and a call's refusals.
+use Prim.Native.Nat.{ℕ, _+_, _*_, _/_, _%_, _^_, _≤_, _<_}
+use mathlib.Core.Path.{_≡_, refl, sym, ap, ap₂, _∙_}
+use mathlib.Core.Bool.{Bool, true, false, cond, _&&_}
+use mathlib.Core.List.{[], _∷_}
+use native.Mathlib.Omega.{arith}
+use lib.Bits.{bitOr, or-shifted}
+use lib.Dec.{eqb, leb, ltb}
+use lib.ListN.{getD}
+use mir.Val.{boolByte}
+use borrow.Author.Tests.{ne-eqb, le-leb, lt-leb, lt-ltb, le-ltb}
+use Rattle.answers.specs.declared.Refusal.the-variants as refusal
+use Rattle.answers.specs.declared.Answer.{Answer}
+use Rattle.answers.specs.declared.Answer.the-variants as answer
+use Rattle.timer.specs.declared.Timer.{Timer}
+use Rattle.timer.specs.State.{flag}
+use Rattle.timer.specs.Registers.{bit, placed, clearedOf}
+use Rattle.timers.specs.declared.Timers.{Timers}
+use Rattle.timers.specs.declared.Turn.{Turn}
+use Rattle.timers.specs.declared.Ran.{Ran}
+use Rattle.timers.specs.State.{at, isEnabled, withCounter, withEnabled, withTimers, withTimer}
+use Rattle.timers.specs.Formed.{wellFormed}
+use Rattle.timers.specs.Registers.{aligned, inside, numbered, statusOf, timerRegister, registerOf, clearedBy, timerWritten, writtenOf}
+use Rattle.timers.specs.Tick.{ticks, firings, ranOf}
+use Rattle.timers.specs.Call.{turn, refused, readingOf, writingOf, advancingOf, readOf, writeOf, advanceOf}
+
+-- ---- the status register
+
+byte-lt : (b : Bool) → boolByte b < 2
+byte-lt true = omega arith
+byte-lt false = omega arith
+
+pub status-code : (s : Timers) (x y z : ℕ) → x ≡ placed 2 (at s 2 .status) → y ≡ placed 1 (at s 1 .status) → z ≡ placed 0 (at s 0 .status) → bitOr x (bitOr y z) ≡ statusOf s
+unfolding statusOf
+status-code s x y z ex ey ez =
+    (λ i. bitOr (ex i) (bitOr (ey i) (ez i)))
+    ∙ ap (bitOr (a * 2 ^ 2)) (or-shifted b 1 (c * 2 ^ 0) (omega (arith, byte-lt (flag (at s 0 .status)))))
+    ∙ or-shifted a 2 (b * 2 ^ 1 + c * 2 ^ 0) (omega (arith, byte-lt (flag (at s 0 .status)), byte-lt (flag (at s 1 .status))))
+  where
+    a : ℕ
+    a = boolByte (flag (at s 2 .status))
+
+    b : ℕ
+    b = boolByte (flag (at s 1 .status))
+
+    c : ℕ
+    c = boolByte (flag (at s 0 .status))
+
+-- ---- by the offset
+
+module _ (s : Timers) (o : ℕ) where
+  module _ (n1 : o ≡ 0x010 → ⊥) (n2 : o ≡ 0x020 → ⊥) (n3 : o ≡ 0x0F0 → ⊥) where
+    module _ (n0 : o ≡ 0x000 → ⊥) where
+      pub read-below : o < 0x100 → registerOf s o ≡ 0
+      unfolding registerOf
+      read-below l = rw (ne-eqb o 0 n0, ne-eqb o 0x010 n1, ne-eqb o 0x020 n2, ne-eqb o 0x0F0 n3, lt-leb 0x100 o l)
+
+      pub read-above : 0x160 ≤ o → registerOf s o ≡ 0
+      unfolding registerOf
+      read-above l = rw (ne-eqb o 0 n0, ne-eqb o 0x010 n1, ne-eqb o 0x020 n2, ne-eqb o 0x0F0 n3, le-leb 0x100 o (omega arith), le-ltb o 0x160 l)
+
+      pub read-timer : 0x100 ≤ o → o < 0x160 → registerOf s o ≡ timerRegister (at s (numbered o)) o
+      unfolding registerOf
+      read-timer l h = rw (ne-eqb o 0 n0, ne-eqb o 0x010 n1, ne-eqb o 0x020 n2, ne-eqb o 0x0F0 n3, le-leb 0x100 o l, lt-ltb o 0x160 h)
+
+    module _ (v : ℕ) where
+      pub write-below : o < 0x100 → writtenOf s o v ≡ s
+      unfolding writtenOf
+      write-below l = rw (ne-eqb o 0x010 n1, ne-eqb o 0x020 n2, ne-eqb o 0x0F0 n3, lt-leb 0x100 o l)
+
+      pub write-above : 0x160 ≤ o → writtenOf s o v ≡ s
+      unfolding writtenOf
+      write-above l = rw (ne-eqb o 0x010 n1, ne-eqb o 0x020 n2, ne-eqb o 0x0F0 n3, le-leb 0x100 o (omega arith), le-ltb o 0x160 l)
+
+      pub write-timer : 0x100 ≤ o → o < 0x160 → writtenOf s o v ≡ withTimer s (numbered o) (timerWritten (at s (numbered o)) o v)
+      unfolding writtenOf
+      write-timer l h = rw (ne-eqb o 0x010 n1, ne-eqb o 0x020 n2, ne-eqb o 0x0F0 n3, le-leb 0x100 o l, lt-ltb o 0x160 h)
+
+  pub read-capabilities : o ≡ 0x000 → registerOf s o ≡ 0x05F5E10080862201
+  unfolding registerOf
+  read-capabilities e = rw e
+
+  pub read-enabled : o ≡ 0x010 → registerOf s o ≡ boolByte (isEnabled s)
+  unfolding registerOf
+  read-enabled e = rw e
+
+  pub read-status : o ≡ 0x020 → registerOf s o ≡ statusOf s
+  unfolding registerOf
+  read-status e = rw e
+
+  pub read-counter : o ≡ 0x0F0 → registerOf s o ≡ s .counter
+  unfolding registerOf
+  read-counter e = rw e
+
+  module _ (v : ℕ) where
+    pub write-enabled : o ≡ 0x010 → writtenOf s o v ≡ withEnabled s (v / 2 ^ 0 % 2)
+    unfolding writtenOf
+    write-enabled e = rw e
+
+    pub write-status : o ≡ 0x020 → writtenOf s o v ≡ withTimers s (clearedBy v s)
+    unfolding writtenOf
+    write-status e = rw e
+
+    pub write-counter : o ≡ 0x0F0 → writtenOf s o v ≡ cond (isEnabled s) s (withCounter s v)
+    unfolding writtenOf
+    write-counter e = rw e
+
+-- ---- refusals
+
+module _ (s : Timers) (w o : ℕ) where
+  pub reading-width : aligned w o ≡ false → readingOf s w o ≡ refused s refusal.Width
+  unfolding readingOf
+  reading-width e = rw e
+
+  pub reading-offset : aligned w o ≡ true → 0x400 ≤ o → readingOf s w o ≡ refused s refusal.Offset
+  unfolding readingOf
+  reading-offset e l = rw (e, le-ltb o 0x400 l)
+
+  pub reading-done : aligned w o ≡ true → o < 0x400 → readingOf s w o ≡ turn s (answer.Value (registerOf s o))
+  unfolding readingOf
+  reading-done e l = rw (e, lt-ltb o 0x400 l)
+
+  pub read-refused : wellFormed s ≡ false → readOf s w o ≡ refused s refusal.State
+  unfolding readOf
+  read-refused e = rw e
+
+  pub read-done : wellFormed s ≡ true → readOf s w o ≡ readingOf s w o
+  unfolding readOf
+  read-done e = rw e
+
+  module _ (v : ℕ) where
+    pub writing-width : aligned w o ≡ false → writingOf s w o v ≡ refused s refusal.Width
+    unfolding writingOf
+    writing-width e = rw e
+
+    pub writing-offset : aligned w o ≡ true → 0x400 ≤ o → writingOf s w o v ≡ refused s refusal.Offset
+    unfolding writingOf
+    writing-offset e l = rw (e, le-ltb o 0x400 l)
+
+    pub writing-done : aligned w o ≡ true → o < 0x400 → writingOf s w o v ≡ turn (writtenOf s o v) answer.Done
+    unfolding writingOf
+    writing-done e l = rw (e, lt-ltb o 0x400 l)
+
+    pub write-refused : wellFormed s ≡ false → writeOf s w o v ≡ refused s refusal.State
+    unfolding writeOf
+    write-refused e = rw e
+
+    pub write-done : wellFormed s ≡ true → writeOf s w o v ≡ writingOf s w o v
+    unfolding writeOf
+    write-done e = rw e
+
+module _ (s : Timers) (n : ℕ) where
+  pub advance-refused : wellFormed s ≡ false → advanceOf s n ≡ refused s refusal.State
+  unfolding advanceOf
+  advance-refused e = rw e
+
+  pub advance-done : wellFormed s ≡ true → advanceOf s n ≡ advancingOf s n
+  unfolding advanceOf
+  advance-done e = rw e
+
+  pub advancing-is : advancingOf s n ≡ turn (ticks n s) (answer.Fired (firings 0 n s) (firings 1 n s) (firings 2 n s))
+  unfolding advancingOf
+  advancing-is = refl
+
+  -- by what `ran` gives
+  pub advancing-ran : (r : Ran) → r ≡ ranOf s n → turn (r .timers) (answer.Fired (getD (r .fired) 0 0) (getD (r .fired) 1 0) (getD (r .fired) 2 0)) ≡ advancingOf s n
+  unfolding ranOf advancingOf
+  advancing-ran r e = ap (λ (x : Ran). turn (x .timers) (answer.Fired (getD (x .fired) 0 0) (getD (x .fired) 1 0) (getD (x .fired) 2 0))) e
+
+-- ---- a write to the status register
+
+pub cleared-code :
+    (s : Timers) (v b0 b1 b2 : ℕ) (x0 x1 x2 : Timer) → b0 ≡ bit 0 v → b1 ≡ bit 1 v → b2 ≡ bit 2 v → x0 ≡ cond (flag b0) (clearedOf (at s 0)) (at s 0) →
+    x1 ≡ cond (flag b1) (clearedOf (at s 1)) (at s 1) → x2 ≡ cond (flag b2) (clearedOf (at s 2)) (at s 2) →
+    record { counter = s .counter; enabled = s .enabled; timer = x0 ∷ x1 ∷ x2 ∷ [] } ≡ withTimers s (clearedBy v s)
+cleared-code s v b0 b1 b2 x0 x1 x2 e0 e1 e2 f0 f1 f2 =
+    λ i. record {
+      counter = s .counter;
+      enabled = s .enabled;
+      timer = (f0 ∙ ap (by 0) e0) i ∷ (f1 ∙ ap (by 1) e1) i ∷ (f2 ∙ ap (by 2) e2) i ∷ [];
+    }
+  where
+    by : ℕ → ℕ → Timer
+    by m b = cond (flag b) (clearedOf (at s m)) (at s m)

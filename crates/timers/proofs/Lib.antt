@@ -1,0 +1,4 @@
+pub mod Three
+pub mod Each
+pub mod Whole
+pub mod Access

@@ -1,0 +1,72 @@
+-- Lists by the timers' numbers, and a block with another timer.
+use Prim.Native.Nat.{ℕ, zero, suc, _<_, _≤_}
+use mathlib.Core.Path.{_≡_, refl, sym, ap, _∙_}
+use mathlib.Core.Bool.{Bool, true, false, cond}
+use mathlib.Core.List.{List, [], _∷_}
+use native.Mathlib.Omega.{arith}
+use native.Mathlib.Decide.{ℕ-discrete}
+use lib.Dec.{eqb, eqb·suc-zero, eqb·suc-suc}
+use lib.ListN.{getD, set, length}
+use borrow.Author.Tests.{eq-eqb, ne-eqb}
+use Rattle.timer.specs.declared.Timer.{Timer}
+use Rattle.timer.specs.State.{blank}
+use Rattle.timers.specs.declared.Timers.{Timers}
+use Rattle.timers.specs.State.{three, at, withTimers, withTimer}
+
+pub at-three : {A : Type 0} (f : ℕ → A) (z : A) (m : ℕ) → m < 3 → getD (three f) m z ≡ f m
+at-three f z zero l = refl
+at-three f z (suc zero) l = refl
+at-three f z (suc (suc zero)) l = refl
+at-three f z (suc (suc (suc m))) l = absurd (omega arith)
+
+pub three-same : {A : Type 0} (f g : ℕ → A) → ((m : ℕ) → m < 3 → f m ≡ g m) → three f ≡ three g
+three-same f g e = λ i. e 0 (omega arith) i ∷ e 1 (omega arith) i ∷ e 2 (omega arith) i ∷ []
+
+pub of-three : {A : Type 0} (l : List A) (z : A) → length l ≡ 3 → l ≡ three (λ m. getD l m z)
+of-three [] z e = absurd (omega arith)
+of-three (a ∷ []) z e = absurd (omega arith)
+of-three (a ∷ b ∷ []) z e = absurd (omega arith)
+of-three (a ∷ b ∷ c ∷ []) z e = refl
+of-three (a ∷ b ∷ c ∷ d ∷ l) z e = absurd (omega arith)
+
+-- a store into an array of three
+pub set-three : {A : Type 0} (l : List A) (z x : A) (m : ℕ) → length l ≡ 3 → m < 3 → set l m x ≡ three (λ i. cond (eqb i m) x (getD l i z))
+set-three l z x zero e h = ap (λ (k : List _). set k 0 x) (of-three l z e)
+set-three l z x (suc zero) e h = ap (λ (k : List _). set k 1 x) (of-three l z e)
+set-three l z x (suc (suc zero)) e h = ap (λ (k : List _). set k 2 x) (of-three l z e)
+set-three l z x (suc (suc (suc m))) e h = absurd (omega arith)
+
+module _ (s : Timers) (m : ℕ) (x : Timer) where
+  pub at-with : (j : ℕ) → j < 3 → at (withTimer s m x) j ≡ cond (eqb j m) x (at s j)
+  at-with j l = at-three (λ i. cond (eqb i m) x (at s i)) blank j l
+
+  pub at-same : m < 3 → at (withTimer s m x) m ≡ x
+  at-same l = at-with m l ∙ rw (eq-eqb m m refl)
+
+  pub at-other : (j : ℕ) → j < 3 → (j ≡ m → ⊥) → at (withTimer s m x) j ≡ at s j
+  at-other j l n = at-with j l ∙ rw (ne-eqb j m n)
+
+-- ---- what the code cites
+
+-- a block is its three timers, and its numbers
+pub eta : (s : Timers) → length (s .timer) ≡ 3 → s ≡ withTimers s (at s)
+eta s e = ap (λ (l : List Timer). record { counter = s .counter; enabled = s .enabled; timer = l }) (of-three (s .timer) blank e)
+
+pub stored : (s : Timers) (m : ℕ) (x : Timer) → length (s .timer) ≡ 3 → m < 3 → record { counter = s .counter; enabled = s .enabled; timer = set (s .timer) m x } ≡ withTimer s m x
+stored s m x e l = ap (λ (k : List Timer). record { counter = s .counter; enabled = s .enabled; timer = k }) (set-three (s .timer) blank x m e l)
+
+pub not-stored : (s : Timers) (m : ℕ) (x : Timer) → length (s .timer) ≡ 3 → 3 ≤ m → s ≡ withTimer s m x
+not-stored s m x e l =
+    eta s e
+    ∙ ap (λ (k : List Timer). record { counter = s .counter; enabled = s .enabled; timer = k })
+    (three-same (at s) (λ i. cond (eqb i m) x (at s i)) (λ j h. rw (ne-eqb j m (λ q. omega arith))))
+
+-- past the last there is none
+pub beyond : (l : List Timer) (m : ℕ) → length l ≡ 3 → 3 ≤ m → getD l m blank ≡ blank
+beyond l m e h = ap (λ (k : List Timer). getD k m blank) (of-three l blank e) ∙ go m h
+  where
+    go : (m : ℕ) → 3 ≤ m → getD (three (λ i. getD l i blank)) m blank ≡ blank
+    go zero h = absurd (omega arith)
+    go (suc zero) h = absurd (omega arith)
+    go (suc (suc zero)) h = absurd (omega arith)
+    go (suc (suc (suc m))) h = refl

@@ -1,0 +1,59 @@
+use mathlib.Core.Path.{_≡_, sym, _∙_}
+use borrow.Author.Tests.{not-true, not-false}
+use Rattle.timers.proofs.Access.{advance-refused, advance-done, advancing-ran}
+use borrow.Author.Needs.{needs}
+use Rattle.timers.proofs.Timers.advance.Statement.{statement}
+use Rattle.timers.proofs.Timers.advance.Tie as tie
+use Rattle.timers.proofs.Timers.advance.Reads as reads
+use Rattle.timers.proofs.Timers.advance.Lts as lts
+use Rattle.timers.proofs.Timers.ran.Reads as ran-reads
+use Rattle.timers.proofs.Timers.refused.Reads as refused-reads
+use Rattle.timers.proofs.Timers.well_formed.Reads as well-formed-reads
+
+-- src/lib.rt:371:13
+well-formed-requires : tie.Need-well-formed-requires
+well-formed-requires c κs = search needs
+
+-- src/lib.rt:372:13
+refused-requires : tie.Need-refused-requires
+refused-requires c κs = search needs
+
+-- src/lib.rt:372:13
+returns : tie.Need-returns
+returns c = c .refused .ensures ∙ sym (advance-refused _ _ (sym (c .before .before .well-formed .ensures) ∙ not-true _ (c .before .if1 .taken)))
+
+-- src/lib.rt:374:13
+ran-requires : tie.Need-ran-requires
+ran-requires c κs = search needs
+
+-- src/lib.rt:379:35
+array-read-t11 : tie.Need-array-read-t11
+array-read-t11 c = search needs
+
+-- src/lib.rt:379:41
+array-read-t14 : tie.Need-array-read-t14
+array-read-t14 c = search needs
+
+-- src/lib.rt:379:47
+array-read-t17 : tie.Need-array-read-t17
+array-read-t17 c = search needs
+
+-- src/lib.rt:368:5
+returns-2 : tie.Need-returns-2
+returns-2 c = let e = c .before .before .before in
+    let s = e .before .before .args in
+    advancing-ran (s .self) (s .ticks) _ (c .before .before .ran .ensures)
+    ∙ sym (advance-done (s .self) (s .ticks) (sym (e .before .well-formed .ensures) ∙ not-false _ (e .if1 .left)))
+
+pub advance-spec : {M : Type 1} → statement M
+advance-spec =
+    tie.close
+    (tie.spec
+    well-formed-requires
+    refused-requires
+    returns
+    ran-requires
+    array-read-t11
+    array-read-t14
+    array-read-t17
+    returns-2)

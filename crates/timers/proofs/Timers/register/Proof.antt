@@ -1,0 +1,88 @@
+use mathlib.Core.Path.{_≡_, sym, ap, _∙_}
+use Rattle.timer.specs.declared.Timer.{Timer}
+use Rattle.timers.specs.Registers.{timerRegister}
+use Rattle.timers.proofs.Access.{read-capabilities, read-enabled, read-status, read-counter, read-below, read-above, read-timer}
+use borrow.Author.Needs.{needs}
+use Rattle.timers.proofs.Timers.register.Statement.{statement}
+use Rattle.timers.proofs.Timers.register.Tie as tie
+use Rattle.timers.proofs.Timers.register.Reads as reads
+use Rattle.timers.proofs.Timers.register.Lts as lts
+use Rattle.timers.proofs.Timers.at.Reads as at-reads
+use Rattle.timers.proofs.Timers.status.Reads as status-reads
+use Rattle.timers.proofs.timer_register.Reads as timer-register-reads
+
+-- src/lib.rt:217:13
+returns : tie.Need-returns
+returns c = sym (read-capabilities _ _ (c .if1 .taken))
+
+-- src/lib.rt:220:20
+cast-result : tie.Need-cast-result
+cast-result c = search needs
+
+-- src/lib.rt:220:13
+returns-2 : tie.Need-returns-2
+returns-2 c = sym (read-enabled _ _ (c .before .if2 .taken))
+
+-- src/lib.rt:223:13
+status-requires : tie.Need-status-requires
+status-requires c κs = search needs
+
+-- src/lib.rt:223:13
+returns-3 : tie.Need-returns-3
+returns-3 c = c .status .ensures ∙ sym (read-status _ _ (c .before .if3 .taken))
+
+-- src/lib.rt:226:13
+returns-4 : tie.Need-returns-4
+returns-4 c = sym (read-counter _ _ (c .if4 .taken))
+
+-- src/lib.rt:229:13
+returns-5 : tie.Need-returns-5
+returns-5 c = let e4 = c .before in
+    let e3 = e4 .before in
+    let e2 = e3 .before in
+    let e1 = e2 .before in
+    sym (read-below _ _ (e2 .if2 .left) (e3 .if3 .left) (e4 .if4 .left) (e1 .if1 .left) (c .if5 .taken))
+
+-- src/lib.rt:232:13
+returns-6 : tie.Need-returns-6
+returns-6 c = let e4 = c .before .before in
+    let e3 = e4 .before in
+    let e2 = e3 .before in
+    let e1 = e2 .before in
+    sym (read-above _ _ (e2 .if2 .left) (e3 .if3 .left) (e4 .if4 .left) (e1 .if1 .left) (c .if6 .taken))
+
+-- src/lib.rt:235:24
+at-requires : tie.Need-at-requires
+at-requires c κs = search needs
+
+-- src/lib.rt:235:9
+timer-register-requires : tie.Need-timer-register-requires
+timer-register-requires c κs = search needs
+
+-- src/lib.rt:213:5
+returns-7 : tie.Need-returns-7
+returns-7 c = let e6 = c .before .before in
+    let e5 = e6 .before in
+    let e4 = e5 .before in
+    let e3 = e4 .before in
+    let e2 = e3 .before in
+    let e1 = e2 .before in
+    c .timer-register .ensures
+    ∙ ap (λ (t : Timer). timerRegister t (e1 .before .args .offset)) (c .before .at .ensures)
+    ∙ sym (read-timer _ _ (e2 .if2 .left) (e3 .if3 .left) (e4 .if4 .left) (e1 .if1 .left) (e5 .if5 .left) (e6 .if6 .left))
+
+pub register-spec : {M : Type 1} → statement M
+register-spec =
+    tie.close
+    (tie.spec
+    returns
+    cast-result
+    returns-2
+    status-requires
+    returns-3
+    returns-4
+    returns-5
+    returns-6
+    at-requires
+    timer-register-requires
+    returns-7)

@@ -1,0 +1,5 @@
+pub mod State
+pub mod Formed
+pub mod Registers
+pub mod Tick
+pub mod Call

@@ -1,0 +1,71 @@
+-- "Timer registers": what each offset reads, and what a write to it does.
+use Prim.Native.Nat.{ℕ, _+_, _-_, _*_, _/_, _%_, _^_}
+use mathlib.Core.Bool.{Bool, cond, _&&_}
+use lib.Dec.{eqb, leb, ltb}
+use mir.Val.{boolByte}
+use Rattle.timer.specs.declared.Timer.{Timer}
+use Rattle.timer.specs.State.{flag}
+use Rattle.timer.specs.Registers.{bit, placed, configurationOf, configuredOf, comparedOf, clearedOf}
+use Rattle.timers.specs.declared.Timers.{Timers}
+use Rattle.timers.specs.State.{at, isEnabled, withCounter, withEnabled, withTimers, withTimer}
+
+-- ---- which accesses there are
+
+-- width 8, offset a multiple of 8
+abbrev pub aligned : ℕ → ℕ → Bool
+aligned width offset = eqb width 8 && eqb (offset % 8) 0
+
+-- below 0x400
+abbrev pub inside : ℕ → Bool
+inside offset = ltb offset 0x400
+
+-- ---- the timers' registers
+
+-- 0x100 + 0x20n on: timer n, below 3
+abbrev pub numbered : ℕ → ℕ
+numbered offset = (offset - 0x100) / 0x20
+
+abbrev pub ofTimer : ℕ → Bool
+ofTimer offset = leb 0x100 offset && ltb offset 0x160
+
+-- 0x100 + 0x20n its configuration, 0x108 + 0x20n its comparator
+abbrev pub isConfiguration : ℕ → Bool
+isConfiguration offset = eqb (offset % 0x20) 0
+
+abbrev pub isComparator : ℕ → Bool
+isComparator offset = eqb (offset % 0x20) 8
+
+-- ---- reading
+
+-- 0x020: bit n is timer n's status. Other bits read 0
+unfoldable pub statusOf : Timers → ℕ
+statusOf s = placed 2 (at s 2 .status) + (placed 1 (at s 1 .status) + placed 0 (at s 0 .status))
+
+unfoldable pub timerRegister : Timer → ℕ → ℕ
+timerRegister t offset = cond (isConfiguration offset) (configurationOf t) (cond (isComparator offset) (t .comparator) 0)
+
+-- offsets not listed read 0
+unfoldable pub registerOf : Timers → ℕ → ℕ
+registerOf s offset =
+    cond (eqb offset 0x000) 0x05F5E10080862201
+    (cond (eqb offset 0x010) (boolByte (isEnabled s))
+    (cond (eqb offset 0x020) (statusOf s)
+    (cond (eqb offset 0x0F0) (s .counter)
+    (cond (ofTimer offset) (timerRegister (at s (numbered offset)) offset) 0))))
+
+-- ---- writing
+
+-- 0x020: writing 1 to a timer's status clears it
+abbrev pub clearedBy : ℕ → Timers → ℕ → Timer
+clearedBy v s m = cond (flag (bit m v)) (clearedOf (at s m)) (at s m)
+
+unfoldable pub timerWritten : Timer → ℕ → ℕ → Timer
+timerWritten t offset v = cond (isConfiguration offset) (configuredOf t v) (cond (isComparator offset) (comparedOf t v) t)
+
+-- 0x010: bit 0 enable; 0x0F0: a write while enabled is ignored; offsets not listed ignore writes
+unfoldable pub writtenOf : Timers → ℕ → ℕ → Timers
+writtenOf s offset v =
+    cond (eqb offset 0x010) (withEnabled s (bit 0 v))
+    (cond (eqb offset 0x020) (withTimers s (clearedBy v s))
+    (cond (eqb offset 0x0F0) (cond (isEnabled s) s (withCounter s v))
+    (cond (ofTimer offset) (withTimer s (numbered offset) (timerWritten (at s (numbered offset)) offset v)) s)))
