@@ -230,3 +230,8 @@ pulsed-sized e l p z k = wired-sized (wired e (set l p 1)) (wired-sized e z (set
 pub pulsed-level : (e : Entries) (l : List ℕ) (p : ℕ) → pulsed e l p .level ≡ l
 unfolding pulsed
 pulsed-level e l p = wired-level (wired e (set l p 1)) l
+
+-- a pulse is a raise and a drop
+pub pulsed-is : (e : Entries) (l : List ℕ) (p : ℕ) → pulsed e l p ≡ wired (wired e (set l p 1)) l
+unfolding pulsed
+pulsed-is e l p = refl

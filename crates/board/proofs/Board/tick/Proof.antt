@@ -1,0 +1,47 @@
+use mathlib.Core.Path.{_≡_, refl, sym, ap, _∙_}
+use borrow.Author.Tests.{not-true, not-false, lt-ltb, le-ltb, le-leb, lt-leb, eq-eqb, ne-eqb}
+use Rattle.board.specs.Tick.{tick, upTo}
+use borrow.Author.Needs.{needs}
+use Rattle.board.proofs.Board.tick.Statement.{statement}
+use Rattle.board.proofs.Board.tick.Tie as tie
+use Rattle.board.proofs.Board.tick.Reads as reads
+use Rattle.board.proofs.Board.tick.Lts as lts
+use Rattle.board.proofs.Board.turned.Reads as turned-reads
+use Rattle.timers.proofs.Timers.counted.Reads as counted-reads
+
+-- src/tick.rt:69:13
+returns : tie.Need-returns
+unfolding tick
+returns c = rw (ne-eqb _ _ (c .if1 .taken))
+
+-- src/tick.rt:72:21
+counted-requires : tie.Need-counted-requires
+counted-requires c κs = search needs
+
+-- src/tick.rt:76:9
+turned-requires : tie.Need-turned-requires
+turned-requires c κs = search needs
+
+-- src/tick.rt:76:9
+turned-requires-2 : tie.Need-turned-requires-2
+turned-requires-2 c κs = search needs
+
+-- src/tick.rt:76:9
+turned-requires-3 : tie.Need-turned-requires-3
+turned-requires-3 c κs = search needs
+
+-- src/tick.rt:62:5
+returns-2 : tie.Need-returns-2
+unfolding tick upTo
+returns-2 c = rw (eq-eqb _ _ (c .before .before .before .before .if1 .left), ← (c .before .before .before .counted .ensures), ← (c .before .before .turned .ensures), ← (c .before .turned2 .ensures)) (c .turned3 .ensures)
+
+pub tick-spec : {M : Type 1} → statement M
+tick-spec =
+    tie.close
+    (tie.spec
+    returns
+    counted-requires
+    turned-requires
+    turned-requires-2
+    turned-requires-3
+    returns-2)

@@ -1,0 +1,38 @@
+use mathlib.Core.Path.{sym, ap, _∙_}
+use lib.ListN.{set}
+use Rattle.entries.proofs.Pulse.{pulsed-is}
+use Rattle.controller.specs.declared.Controller.{Controller}
+use Rattle.controller.specs.State.{withEntries}
+use Rattle.controller.specs.Steps.{rewired}
+use borrow.Author.Needs.{needs}
+use Rattle.board.proofs.tick.pulsed.Statement.{statement}
+use Rattle.board.proofs.tick.pulsed.Tie as tie
+use Rattle.board.proofs.tick.pulsed.Reads as reads
+use Rattle.board.proofs.tick.pulsed.Lts as lts
+use Rattle.board.proofs.tick.raised.Reads as raised-reads
+use Rattle.controller.proofs.Controller.rewired.Reads as rewired-reads
+
+-- src/tick.rt:27:15
+raised-requires : tie.Need-raised-requires
+raised-requires c κs = search needs
+
+-- src/tick.rt:27:5
+rewired-requires : tie.Need-rewired-requires
+rewired-requires c κs = search needs
+
+-- src/tick.rt:27:5
+rewired-requires-2 : tie.Need-rewired-requires-2
+rewired-requires-2 c κs = search needs
+
+-- src/tick.rt:24:1
+returns : tie.Need-returns
+returns c =
+    let d = c .before .before .before .args .c in
+    let l = c .before .before .before .args .levels in
+    let p = c .before .before .before .args .pin in
+    c .rewired2 .ensures
+    ∙ ap (λ (x : Controller). rewired x l) (c .before .rewired .ensures ∙ ap (rewired d) (c .before .before .raised .ensures))
+    ∙ ap (withEntries d) (sym (pulsed-is (d .entries) l p))
+
+pub pulsed-spec : {M : Type 1} → statement M
+pulsed-spec = tie.close (tie.spec raised-requires rewired-requires rewired-requires-2 returns)

@@ -1,0 +1,6 @@
+pub mod State
+pub mod Wires
+pub mod Tick
+pub mod Formed
+pub mod Next
+pub mod Step

@@ -1,0 +1,31 @@
+-- The board: the controller, the timer block, the outside wires; and what a call gives.
+use Prim.Native.Nat.{ℕ}
+use mathlib.Core.List.{List}
+use lib.ListN.{replicate}
+use Rattle.answers.specs.declared.Answer.{Answer}
+use Rattle.answers.specs.declared.Answer.the-variants as answer
+use Rattle.answers.specs.declared.Refusal.{Refusal}
+use Rattle.controller.specs.declared.Controller.{Controller}
+use Rattle.controller.specs.State.{resetController}
+use Rattle.timers.specs.declared.Timers.{Timers}
+use Rattle.timers.specs.State.{resetTimers}
+use Rattle.board.specs.declared.Board.{Board}
+use Rattle.board.specs.declared.Turn.{Turn}
+
+abbrev pub board : Controller → Timers → List ℕ → Board
+board c s o = record { timers = s; controller = c; outside = o }
+
+abbrev pub withController : Board → Controller → Board
+withController b c = board c (b .timers) (b .outside)
+
+-- reset: the controller's, the timers', outside wires low
+abbrev pub resetBoard : Board
+resetBoard = board resetController resetTimers (replicate 24 0)
+
+-- the next board and the answer
+abbrev pub turn : Board → Answer → Turn
+turn b a = record { board = b; answer = a }
+
+-- a refusal gives the board that came in
+abbrev pub refused : Board → Refusal → Turn
+refused b r = turn b (answer.Refused r)

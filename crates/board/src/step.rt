@@ -1,0 +1,204 @@
+// Every call: the board is tested once, then the call is served.
+ghost use mathlib.Core.Path.{_≡_};
+ghost use mathlib.Core.Bool.{true};
+ghost use Rattle.board.specs.declared.Call.the-variants as call;
+ghost use Rattle.board.specs.State.{refused};
+ghost use Rattle.board.specs.Formed.{wellFormed};
+ghost use Rattle.board.specs.Step.{readingOf, writingOf, wiringOf, endingOf, deliveringOnBoard, servedOf, turnOf};
+use crate::Board;
+use crate::Call;
+use crate::Turn;
+use answers::Answer;
+use answers::Refusal;
+use controller::Controller;
+
+impl Board {
+    pub const CONTROLLER: u64 = 0;
+
+    pub const TIMERS: u64 = 1;
+
+    pub fn refused(self, refusal: Refusal) -> Turn
+        ensures { λ r. ⌜ r ≡ refused self refusal ⌝ }
+    {
+        Turn {
+            board: self,
+            answer: Answer::Refused(refusal),
+        }
+    }
+
+    fn reading(self, window: u64, width: u64, offset: u64) -> Turn
+        ensures { λ r. ⌜ r ≡ readingOf self window width offset ⌝ }
+    {
+        if window == Board::CONTROLLER {
+            let c = self.controller;
+            let t = c.reading(width, offset);
+            let controller = t.controller;
+            let answer = t.answer;
+            let mut next = self;
+            next.controller = controller;
+            return Turn {
+                board: next,
+                answer,
+            };
+        }
+        if window == Board::TIMERS {
+            let s = self.timers;
+            let t = s.reading(width, offset);
+            let answer = t.answer;
+            return Turn {
+                board: self,
+                answer,
+            };
+        }
+        self.refused(Refusal::Window)
+    }
+
+    fn writing(self, window: u64, width: u64, offset: u64, value: u64) -> Turn
+        ensures { λ r. ⌜ r ≡ writingOf self window width offset value ⌝ }
+    {
+        if window == Board::CONTROLLER {
+            let c = self.controller;
+            let t = c.writing(width, offset, value);
+            let controller = t.controller;
+            let answer = t.answer;
+            let mut next = self;
+            next.controller = controller;
+            return Turn {
+                board: next,
+                answer,
+            };
+        }
+        if window == Board::TIMERS {
+            let s = self.timers;
+            let c = self.controller;
+            let outside = self.outside;
+            let t = s.writing(width, offset, value);
+            let timers = t.timers;
+            let answer = t.answer;
+            return Turn {
+                board: Board::joined(c, timers, outside),
+                answer,
+            };
+        }
+        self.refused(Refusal::Window)
+    }
+
+    fn wiring(self, pin: u64, level: u64) -> Turn
+        ensures { λ r. ⌜ r ≡ wiringOf self pin level ⌝ }
+    {
+        if Controller::PINS <= pin {
+            return self.refused(Refusal::Pin);
+        }
+        if Controller::LAST_LEVEL < level {
+            return self.refused(Refusal::Level);
+        }
+        let n = pin as usize;
+        let c = self.controller;
+        let timers = self.timers;
+        let mut outside = self.outside;
+        outside[n] = level as u8;
+        Turn {
+            board: Board::joined(c, timers, outside),
+            answer: Answer::Done,
+        }
+    }
+
+    fn ending(self, vector: u8) -> Turn
+        ensures { λ r. ⌜ r ≡ endingOf self vector ⌝ }
+    {
+        let c = self.controller;
+        let mut next = self;
+        next.controller = c.ending(vector);
+        Turn {
+            board: next,
+            answer: Answer::Done,
+        }
+    }
+
+    fn delivering(self) -> Turn
+        ensures { λ r. ⌜ r ≡ deliveringOnBoard self ⌝ }
+    {
+        let c = self.controller;
+        let t = c.delivering();
+        let controller = t.controller;
+        let answer = t.answer;
+        let mut next = self;
+        next.controller = controller;
+        Turn {
+            board: next,
+            answer,
+        }
+    }
+
+    pub fn read(self, window: u64, width: u64, offset: u64) -> Turn
+        ensures { λ r. ⌜ r ≡ turnOf self (call.Read window width offset) ⌝ }
+    {
+        if self.well_formed() {
+            self.reading(window, width, offset)
+        } else {
+            self.refused(Refusal::State)
+        }
+    }
+
+    pub fn write(self, window: u64, width: u64, offset: u64, value: u64) -> Turn
+        ensures { λ r. ⌜ r ≡ turnOf self (call.Write window width offset value) ⌝ }
+    {
+        if self.well_formed() {
+            self.writing(window, width, offset, value)
+        } else {
+            self.refused(Refusal::State)
+        }
+    }
+
+    pub fn wire(self, pin: u64, level: u64) -> Turn
+        ensures { λ r. ⌜ r ≡ turnOf self (call.Wire pin level) ⌝ }
+    {
+        if self.well_formed() {
+            self.wiring(pin, level)
+        } else {
+            self.refused(Refusal::State)
+        }
+    }
+
+    pub fn end(self, vector: u8) -> Turn
+        ensures { λ r. ⌜ r ≡ turnOf self (call.End vector) ⌝ }
+    {
+        if self.well_formed() {
+            self.ending(vector)
+        } else {
+            self.refused(Refusal::State)
+        }
+    }
+
+    pub fn deliver(self) -> Turn
+        ensures { λ r. ⌜ r ≡ turnOf self call.Deliver ⌝ }
+    {
+        if self.well_formed() {
+            self.delivering()
+        } else {
+            self.refused(Refusal::State)
+        }
+    }
+
+    pub fn step(self, call: Call) -> Turn
+        ensures { λ r. ⌜ r ≡ turnOf self call ⌝ }
+    {
+        match call {
+            Call::Read {
+                window,
+                width,
+                offset,
+            } => self.read(window, width, offset),
+            Call::Write {
+                window,
+                width,
+                offset,
+                value,
+            } => self.write(window, width, offset, value),
+            Call::Wire { pin, level } => self.wire(pin, level),
+            Call::End { vector } => self.end(vector),
+            Call::Advance { ticks } => self.advance(ticks),
+            Call::Deliver => self.deliver(),
+        }
+    }
+}

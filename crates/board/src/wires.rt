@@ -1,0 +1,72 @@
+// The wire rule, and the test of a board.
+ghost use mathlib.Core.Path.{_≡_};
+ghost use Rattle.pins.specs.Pins.{every};
+ghost use Rattle.board.specs.State.{resetBoard};
+ghost use Rattle.board.specs.Wires.{highAt, wiresOf, joined};
+ghost use Rattle.board.specs.Formed.{keptAt, wellFormed};
+use crate::Board;
+use controller::Controller;
+use entries::Entries;
+use timers::Timers;
+
+// The wire rule at every pin.
+pub fn wires(outside: [u8; 24], timers: Timers) -> [u8; 24]
+    ensures { λ r. ⌜ r ≡ wiresOf outside timers ⌝ }
+{
+    let mut levels: [u8; 24] = [0; 24];
+    let mut i: usize = 0;
+    while i < Entries::PINS {
+        levels[i] = ((outside[i] == 1) | timers.drives(i)) as u8;
+        i += 1;
+    }
+    levels
+}
+
+impl Board {
+    pub fn reset() -> Board
+        ensures { λ r. ⌜ r ≡ resetBoard ⌝ }
+    {
+        Board {
+            timers: Timers::reset(),
+            controller: Controller::reset(),
+            outside: [0; 24],
+        }
+    }
+
+    // The parts joined, one step: the pins' levels are those of the wire rule, and edges are held.
+    pub fn joined(c: Controller, timers: Timers, outside: [u8; 24]) -> Board
+        ensures { λ r. ⌜ r ≡ joined c timers outside ⌝ }
+    {
+        Board {
+            timers,
+            controller: c.rewired(wires(outside, timers)),
+            outside,
+        }
+    }
+
+    // Each pin level kept is the one that the wire rule gives.
+    fn kept(self) -> bool
+        ensures { λ r. ⌜ r ≡ every (keptAt self) ⌝ }
+    {
+        let c = self.controller;
+        let entries = c.entries;
+        let timers = self.timers;
+        let outside = self.outside;
+        let mut ok = true;
+        let mut i: usize = 0;
+        while i < Entries::PINS {
+            ok = ok & (entries.level[i] == ((outside[i] == 1) | timers.drives(i)) as u8);
+            i += 1;
+        }
+        ok
+    }
+
+    pub fn well_formed(self) -> bool
+        ensures { λ r. ⌜ r ≡ wellFormed self ⌝ }
+    {
+        let c = self.controller;
+        let s = self.timers;
+        let outside = self.outside;
+        c.well_formed() & (s.well_formed() & (Entries::levels_ok(outside) & self.kept()))
+    }
+}
