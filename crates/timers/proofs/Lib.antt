@@ -2,3 +2,8 @@ pub mod Three
 pub mod Each
 pub mod Whole
 pub mod Access
+pub mod Wires
+pub mod Turns
+pub mod Portions
+pub mod First
+pub mod Formed
