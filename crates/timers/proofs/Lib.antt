@@ -7,3 +7,7 @@ pub mod Turns
 pub mod Portions
 pub mod First
 pub mod Formed
+pub mod Runs
+pub mod Numbers
+pub mod Sheet
+pub mod Demands
