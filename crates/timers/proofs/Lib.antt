@@ -2,3 +2,12 @@ pub mod Three
 pub mod Each
 pub mod Whole
 pub mod Access
+pub mod Wires
+pub mod Turns
+pub mod Portions
+pub mod First
+pub mod Formed
+pub mod Runs
+pub mod Numbers
+pub mod Sheet
+pub mod Demands

@@ -3,3 +3,4 @@ pub mod Formed
 pub mod Registers
 pub mod Tick
 pub mod Call
+pub mod Sheet

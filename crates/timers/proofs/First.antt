@@ -1,0 +1,105 @@
+-- Laws of the first firing, for whoever goes from one to the next.
+use Prim.Native.Nat.{ℕ, zero, suc, _+_, _-_, _≤_, _<_, zero-le}
+use mathlib.Core.Path.{_≡_, refl, sym, ap, ap₂, _∙_}
+use mathlib.Core.Bool.{Bool, true, false, cond}
+use mathlib.Core.Logic.{_⊎_, inl, inr}
+use native.Mathlib.Omega.{arith}
+use native.Mathlib.Nat.{add-zero, add-suc}
+use native.Mathlib.Decide.{ℕ-discrete}
+use lib.Dec.{eqb, eqb·suc-zero}
+use borrow.Author.Tests.{ne-eqb, eq-eqb}
+use Rattle.timers.specs.declared.Timers.{Timers}
+use Rattle.timers.specs.Tick.{ticks, firesIn, first}
+use Rattle.timers.proofs.Portions.{ticks-add}
+
+-- the first firing over two portions: of the first one, or else of the second one, that many ticks later
+abbrev pub either-first : ℕ → ℕ → ℕ → ℕ
+either-first a f g = cond (eqb f 0) (cond (eqb g 0) 0 (a + g)) f
+
+next-first : (a b f g : ℕ) (x : Bool) →
+    cond (eqb (either-first a f g) 0) (cond x (suc (a + b)) 0) (either-first a f g)
+    ≡ either-first a f (cond (eqb g 0) (cond x (suc b) 0) g)
+next-first a b zero zero true = rw eqb·suc-zero (sym (add-suc a b))
+next-first a b zero zero false = refl
+next-first a b zero (suc g) x = rw eqb·suc-zero (rw (ne-eqb (a + suc g) 0 (omega arith)) (rw eqb·suc-zero))
+next-first a b (suc f) g x = rw eqb·suc-zero (rw eqb·suc-zero)
+
+pub first-add : (i a b : ℕ) (s : Timers) → first i (a + b) s ≡ either-first a (first i a s) (first i b (ticks a s))
+unfolding first
+first-add i a zero s = ap (λ (n : ℕ). first i n s) (add-zero a) ∙ none (first i a s)
+  where
+    none : (f : ℕ) → f ≡ either-first a f 0
+    none zero = refl
+    none (suc f) = rw eqb·suc-zero
+first-add i a (suc b) s =
+    ap (λ (n : ℕ). first i n s) (add-suc a b)
+    ∙ ap₂ (λ (x : ℕ) (z : Timers). cond (eqb x 0) (cond (firesIn z i) (suc (a + b)) 0) x) (first-add i a b s) (ticks-add a b s)
+    ∙ next-first a b (first i a s) (first i b (ticks a s)) (firesIn (ticks b (ticks a s)) i)
+
+pick-le : (f n : ℕ) (b : Bool) → f ≤ n → cond (eqb f 0) (cond b (suc n) 0) f ≤ suc n
+pick-le zero n true h = omega arith
+pick-le zero n false h = zero-le
+pick-le (suc f) n b h = rw eqb·suc-zero (omega arith)
+
+pub first-le : (i n : ℕ) (s : Timers) → first i n s ≤ n
+unfolding first
+first-le i zero s = zero-le
+first-le i (suc n) s = pick-le (first i n s) n (firesIn (ticks n s) i) (first-le i n s)
+
+either-left : (a f g : ℕ) → (f ≡ 0 → ⊥) → either-first a f g ≡ f
+either-left a f g n = rw (ne-eqb f 0 n)
+
+either-right : (a f g : ℕ) → f ≡ 0 → either-first a f g ≡ 0 ⊎ a < either-first a f g
+either-right a f zero e = rw e (inl refl)
+either-right a f (suc g) e = rw (e, eqb·suc-zero) (inr (omega arith))
+
+-- it stays in longer runs
+pub first-kept : (i a b : ℕ) (s : Timers) → (first i a s ≡ 0 → ⊥) → first i (a + b) s ≡ first i a s
+first-kept i a b s n = first-add i a b s ∙ either-left a (first i a s) (first i b (ticks a s)) n
+
+-- where there is none in a ticks, it comes later
+pub first-later : (i a b : ℕ) (s : Timers) → first i a s ≡ 0 → first i (a + b) s ≡ 0 ⊎ a < first i (a + b) s
+first-later i a b s e = rw (first-add i a b s) (either-right a (first i a s) (first i b (ticks a s)) e)
+
+-- of n ticks, where the first firing is not one of those after the a-th up to the x-th
+pub none-between : (i a x n : ℕ) (s : Timers) → a ≤ x → x ≤ n → first i n s ≤ a ⊎ x < first i n s → first i a s ≡ 0 → first i x s ≡ 0
+none-between i a x n s h l d z = go (ℕ-discrete (first i x s) 0)
+  where
+    to-x : a + (x - a) ≡ x
+    to-x = omega arith
+
+    to-n : x + (n - x) ≡ n
+    to-n = omega arith
+
+    kept : (first i x s ≡ 0 → ⊥) → first i n s ≡ first i x s
+    kept ne = ap (λ (k : ℕ). first i k s) (sym to-n) ∙ first-kept i x (n - x) s ne
+
+    later : first i x s ≡ 0 ⊎ a < first i x s
+    later = rw to-x at (first-later i a (x - a) s z)
+
+    against : (first i x s ≡ 0 → ⊥) → first i x s ≡ 0 ⊎ a < first i x s → first i n s ≤ a ⊎ x < first i n s → first i x s ≡ 0
+    against ne (inl e) d = e
+    against ne (inr g) (inl q) = absurd (omega (arith, kept ne))
+    against ne (inr g) (inr q) = absurd (omega (arith, kept ne, first-le i x s))
+
+    go : Dec (first i x s ≡ 0) → first i x s ≡ 0
+    go (yes e) = e
+    go (no ne) = against ne later d
+
+-- the next tick: a firing makes it, and nothing else
+pub fires-first : (i n : ℕ) (s : Timers) → firesIn (ticks n s) i ≡ true → first i (suc n) s ≡ 0 → ⊥
+unfolding first
+fires-first i n s e = rw e (go (first i n s))
+  where
+    go : (f : ℕ) → cond (eqb f 0) (suc n) f ≡ 0 → ⊥
+    go zero = λ q. omega arith
+    go (suc f) = rw eqb·suc-zero (λ q. omega arith)
+
+pub first-fires : (i n : ℕ) (s : Timers) → (first i (suc n) s ≡ 0 → ⊥) → (first i n s ≡ 0 → ⊥) ⊎ (firesIn (ticks n s) i ≡ true)
+unfolding first
+first-fires i n s ne = go (first i n s) (firesIn (ticks n s) i) ne
+  where
+    go : (f : ℕ) (b : Bool) → (cond (eqb f 0) (cond b (suc n) 0) f ≡ 0 → ⊥) → (f ≡ 0 → ⊥) ⊎ (b ≡ true)
+    go zero true ne = inr refl
+    go zero false ne = absurd (ne refl)
+    go (suc f) b ne = inl (λ q. omega arith)

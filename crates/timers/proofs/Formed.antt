@@ -1,0 +1,196 @@
+-- Well-formedness of the block: from the test to the facts and back, and what keeps it.
+use Prim.Native.Nat.{ℕ, zero, suc, _/_, _%_, _^_, _<_, _≤_}
+use mathlib.Core.Path.{_≡_, refl, sym, ap, _∙_}
+use mathlib.Core.Bool.{Bool, true, false, cond, _&&_}
+use native.Mathlib.Omega.{arith}
+use lib.Dec.{eqb, leb, ltb, lit<, lit≤}
+use borrow.Author.Tests.{leb-true, le-leb, ltb-true}
+use Rattle.pins.proofs.Bools.{and-left, and-right, and-both}
+use Rattle.timer.specs.declared.Timer.{Timer}
+use Rattle.timer.specs.State.{flag, resetTimer}
+use Rattle.timer.specs.Formed.{timerFormed, Formed as FormedTimer}
+use Rattle.timer.specs.Registers.{bit, configuredOf, comparedOf, clearedOf}
+use Rattle.timer.specs.Tick.{firing}
+use Rattle.timer.proofs.Formed.{formed-in as timer-in, formed-out as timer-out}
+use Rattle.timer.proofs.Kept.{firing-formed, configured-formed, compared-formed, cleared-formed, blank-formed, reset-formed as reset-timer-formed}
+use Rattle.timers.specs.declared.Timers.{Timers}
+use Rattle.timers.specs.declared.Turn.{Turn}
+use Rattle.timers.specs.State.{at, isEnabled, withCounter, withEnabled, withTimers, withTimer, resetTimers}
+use Rattle.timers.specs.Formed.{wellFormed, Formed}
+use Rattle.timers.specs.Registers.{isConfiguration, isComparator, ofTimer, numbered, aligned, inside, clearedBy, timerWritten, writtenOf, registerOf}
+use Rattle.timers.specs.Tick.{countedOf, matchesOf, firedOf, turnedOf, upTo, tick, ticks, routeOf}
+use Rattle.timers.specs.Call.{turn, refused, readingOf, writingOf, advancingOf, readOf, writeOf, advanceOf}
+use Rattle.answers.specs.declared.Refusal.{Refusal}
+use Rattle.answers.specs.declared.Refusal.the-variants as refusal
+use Rattle.answers.specs.declared.Answer.the-variants as answer
+use Rattle.timers.proofs.Three.{at-three}
+use Rattle.timers.proofs.Each.{by-turn}
+
+-- ---- the test and its parts
+
+module _ (s : Timers) where
+  module _ (e : wellFormed s ≡ true) where
+    timers-formed : (timerFormed (at s 0) && (timerFormed (at s 1) && timerFormed (at s 2))) ≡ true
+    unfolding wellFormed
+    timers-formed = and-right (leb (s .enabled) 1) (timerFormed (at s 0) && (timerFormed (at s 1) && timerFormed (at s 2))) e
+
+    enabled-fits : leb (s .enabled) 1 ≡ true
+    unfolding wellFormed
+    enabled-fits = and-left (leb (s .enabled) 1) (timerFormed (at s 0) && (timerFormed (at s 1) && timerFormed (at s 2))) e
+
+    pub at-formed : (m : ℕ) → m < 3 → timerFormed (at s m) ≡ true
+    at-formed zero l = and-left (timerFormed (at s 0)) (timerFormed (at s 1) && timerFormed (at s 2)) timers-formed
+    at-formed (suc zero) l =
+        and-left (timerFormed (at s 1)) (timerFormed (at s 2)) (and-right (timerFormed (at s 0)) (timerFormed (at s 1) && timerFormed (at s 2)) timers-formed)
+    at-formed (suc (suc zero)) l =
+        and-right (timerFormed (at s 1)) (timerFormed (at s 2)) (and-right (timerFormed (at s 0)) (timerFormed (at s 1) && timerFormed (at s 2)) timers-formed)
+    at-formed (suc (suc (suc m))) l = absurd (omega arith)
+
+    pub formed-in : Formed s
+    formed-in = record { enabled-bit = leb-true (s .enabled) 1 enabled-fits; each = λ m l. timer-in (at s m) (at-formed m l) }
+
+    -- a timer's route is a pin
+    pub route-pin : (m : ℕ) → m < 3 → routeOf s m < 24
+    unfolding routeOf
+    route-pin m l = timer-in (at s m) (at-formed m l) .route-pin
+
+  formed-of : leb (s .enabled) 1 ≡ true → ((m : ℕ) → m < 3 → timerFormed (at s m) ≡ true) → wellFormed s ≡ true
+  unfolding wellFormed
+  formed-of e f = and-both e (and-both (f 0 (lit< tt)) (and-both (f 1 (lit< tt)) (f 2 (lit< tt))))
+
+  pub formed-out : Formed s → wellFormed s ≡ true
+  formed-out z = formed-of (le-leb (s .enabled) 1 (z .enabled-bit)) (λ m l. timer-out (at s m) (z .each m l))
+
+-- ---- a block with other timers
+
+module _ (s : Timers) (e : wellFormed s ≡ true) where
+  with-timers-formed : (f : ℕ → Timer) → ((m : ℕ) → m < 3 → timerFormed (f m) ≡ true) → wellFormed (withTimers s f) ≡ true
+  with-timers-formed f h = formed-of (withTimers s f) (enabled-fits s e) (λ m l. ap timerFormed (at-three f _ m l) ∙ h m l)
+
+  with-timer-formed : (m : ℕ) (x : Timer) → timerFormed x ≡ true → wellFormed (withTimer s m x) ≡ true
+  with-timer-formed m x h = with-timers-formed (λ i. cond (eqb i m) x (at s i)) (λ j l. go (eqb j m) j l)
+    where
+      go : (b : Bool) (j : ℕ) → j < 3 → timerFormed (cond b x (at s j)) ≡ true
+      go true j l = h
+      go false j l = at-formed s e j l
+
+  -- ---- a tick's steps
+
+  pub counted-formed : wellFormed (countedOf s) ≡ true
+  unfolding countedOf wellFormed
+  counted-formed = e
+
+  pub fired-formed : (m : ℕ) → m < 3 → wellFormed (firedOf s m) ≡ true
+  unfolding firedOf
+  fired-formed m l = with-timer-formed m (firing (at s m)) (firing-formed (at s m) (at-formed s e m l))
+
+  pub turned-formed : (m : ℕ) → m < 3 → wellFormed (turnedOf s m) ≡ true
+  turned-formed m l = by-turn s m (λ u. wellFormed u ≡ true) (λ q. fired-formed m l) (λ q. e)
+
+pub turns-formed : (m : ℕ) (s : Timers) → m ≤ 3 → wellFormed s ≡ true → wellFormed (upTo m s) ≡ true
+unfolding upTo
+turns-formed zero s l e = counted-formed s e
+turns-formed (suc m) s l e = turned-formed (upTo m s) (turns-formed m s (omega arith) e) m l
+
+pub tick-formed : (s : Timers) → wellFormed s ≡ true → wellFormed (tick s) ≡ true
+unfolding tick
+tick-formed s e = go (isEnabled s)
+  where
+    go : (b : Bool) → wellFormed (cond b (upTo 3 s) s) ≡ true
+    go true = turns-formed 3 s (lit≤ tt) e
+    go false = e
+
+pub ticks-formed : (n : ℕ) (s : Timers) → wellFormed s ≡ true → wellFormed (ticks n s) ≡ true
+unfolding ticks
+ticks-formed zero s e = e
+ticks-formed (suc n) s e = tick-formed (ticks n s) (ticks-formed n s e)
+
+-- ---- reset, and writes
+
+pub reset-formed : wellFormed resetTimers ≡ true
+unfolding resetTimers
+reset-formed = formed-of resetTimers refl (λ m l. ap timerFormed (at-three (λ i. resetTimer) _ m l) ∙ reset-timer-formed)
+
+module _ (s : Timers) (e : wellFormed s ≡ true) (v : ℕ) where
+  enabled-formed : wellFormed (withEnabled s (bit 0 v)) ≡ true
+  unfolding wellFormed
+  enabled-formed = and-both (le-leb (bit 0 v) 1 (omega arith)) (timers-formed s e)
+
+  counter-formed : wellFormed (cond (isEnabled s) s (withCounter s v)) ≡ true
+  unfolding wellFormed
+  counter-formed = go (isEnabled s)
+    where
+      go : (b : Bool) → wellFormed (cond b s (withCounter s v)) ≡ true
+      go true = e
+      go false = e
+
+  status-formed : wellFormed (withTimers s (clearedBy v s)) ≡ true
+  status-formed = with-timers-formed s e (clearedBy v s) (λ m l. go (flag (bit m v)) m l)
+    where
+      go : (b : Bool) (m : ℕ) → m < 3 → timerFormed (cond b (clearedOf (at s m)) (at s m)) ≡ true
+      go true m l = cleared-formed (at s m) (at-formed s e m l)
+      go false m l = at-formed s e m l
+
+  timer-formed : (t : Timer) (o : ℕ) → timerFormed t ≡ true → timerFormed (timerWritten t o v) ≡ true
+  unfolding timerWritten
+  timer-formed t o h = go (isConfiguration o) (isComparator o)
+    where
+      go : (a b : Bool) → timerFormed (cond a (configuredOf t v) (cond b (comparedOf t v) t)) ≡ true
+      go true b = configured-formed t h v
+      go false true = compared-formed t h v
+      go false false = h
+
+  pub written-formed : (o : ℕ) → wellFormed (writtenOf s o v) ≡ true
+  unfolding writtenOf
+  written-formed o = go (eqb o 0x010) (eqb o 0x020) (eqb o 0x0F0) (ofTimer o) refl
+    where
+      m : ℕ
+      m = numbered o
+
+      in-three : ofTimer o ≡ true → m < 3
+      in-three h = omega (arith, ltb-true o 0x160 (and-right (leb 0x100 o) (ltb o 0x160) h))
+
+      go :
+          (a b c d : Bool) → ofTimer o ≡ d →
+          wellFormed
+          (cond a (withEnabled s (bit 0 v))
+          (cond b (withTimers s (clearedBy v s))
+          (cond c (cond (isEnabled s) s (withCounter s v))
+          (cond d (withTimer s m (timerWritten (at s m) o v)) s))))
+          ≡ true
+      go true b c d q = enabled-formed
+      go false true c d q = status-formed
+      go false false true d q = counter-formed
+      go false false false true q = with-timer-formed s e m (timerWritten (at s m) o v) (timer-formed (at s m) o (at-formed s e m (in-three q)))
+      go false false false false q = e
+
+-- ---- the calls
+
+module _ (s : Timers) (w o : ℕ) where
+  -- a read changes no timer
+  pub reading-timers : readingOf s w o .timers ≡ s
+  unfolding readingOf
+  reading-timers = go (aligned w o) (inside o)
+    where
+      go : (a b : Bool) → cond {A = Turn} a (cond b (turn s (answer.Value (registerOf s o))) (refused s refusal.Offset)) (refused s refusal.Width) .timers ≡ s
+      go true true = refl
+      go true false = refl
+      go false b = refl
+
+  pub read-timers : readOf s w o .timers ≡ s
+  unfolding readOf
+  read-timers = go (wellFormed s)
+    where
+      go : (b : Bool) → cond {A = Turn} b (readingOf s w o) (refused s refusal.State) .timers ≡ s
+      go true = reading-timers
+      go false = refl
+
+  module _ (e : wellFormed s ≡ true) (v : ℕ) where
+    pub writing-formed : wellFormed (writingOf s w o v .timers) ≡ true
+    unfolding writingOf
+    writing-formed = go (aligned w o) (inside o)
+      where
+        go : (a b : Bool) → wellFormed (cond {A = Turn} a (cond b (turn (writtenOf s o v) answer.Done) (refused s refusal.Offset)) (refused s refusal.Width) .timers) ≡ true
+        go true true = written-formed s e v o
+        go true false = e
+        go false b = e
