@@ -60,8 +60,8 @@ loop-less c = omega arith
 loop-again : tie.Need-loop-again Inv-loop μ-loop
 unfolding highAt
 loop-again c =
-    let a = c .before .before in
-    let b = a .before .before .before .before .before .before .args .self in
+    let a = c .before .before .before in
+    let b = a .before .before .before .before .before .args .self in
     let e = b .controller .entries in
     let s = b .timers in
     let o = b .outside in

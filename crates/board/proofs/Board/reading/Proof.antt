@@ -17,7 +17,7 @@ reading-requires c κs = search needs
 -- src/step.rt:39:13
 returns : tie.Need-returns
 unfolding readingOf
-returns c = rw (eq-eqb _ _ (c .before .before .if1 .taken), c .before .reading .ensures)
+returns c = rw (eq-eqb _ _ (c .before .before .before .if1 .taken), c .before .reading .ensures)
 
 -- src/step.rt:46:17
 reading-requires-2 : tie.Need-reading-requires-2
@@ -26,7 +26,7 @@ reading-requires-2 c κs = search needs
 -- src/step.rt:48:13
 returns-2 : tie.Need-returns-2
 unfolding readingOf
-returns-2 c = rw (ne-eqb _ _ (c .before .before .before .if1 .left), eq-eqb _ _ (c .before .before .if2 .taken), c .before .reading2 .ensures)
+returns-2 c = rw (ne-eqb _ _ (c .before .before .before .if1 .left), eq-eqb _ _ (c .before .before .if2 .taken), c .reading2 .ensures)
 
 -- src/step.rt:53:9
 refused-requires : tie.Need-refused-requires

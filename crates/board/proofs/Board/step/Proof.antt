@@ -1,3 +1,5 @@
+use mathlib.Core.Path.{sym, ap, _∙_}
+use Rattle.board.specs.Step.{turnOf}
 use borrow.Author.Needs.{needs}
 use Rattle.board.proofs.Board.step.Statement.{statement}
 use Rattle.board.proofs.Board.step.Tie as tie
@@ -60,27 +62,27 @@ deliver-requires c κs = search needs
 
 -- src/step.rt:183:5
 returns : tie.Need-returns
-returns c = ?
+returns c = c .read .ensures ∙ ap (turnOf (c .before .before .before .before .args .self)) (sym (c .before .before .call .given .1))
 
 -- src/step.rt:183:5
 returns-2 : tie.Need-returns-2
-returns-2 c = ?
+returns-2 c = c .write .ensures ∙ ap (turnOf (c .before .before .before .before .args .self)) (sym (c .before .before .call2 .given .1))
 
 -- src/step.rt:183:5
 returns-3 : tie.Need-returns-3
-returns-3 c = ?
+returns-3 c = c .wire .ensures ∙ ap (turnOf (c .before .before .before .before .args .self)) (sym (c .before .before .call3 .given .1))
 
 -- src/step.rt:183:5
 returns-4 : tie.Need-returns-4
-returns-4 c = ?
+returns-4 c = c .end .ensures ∙ ap (turnOf (c .before .before .before .before .args .self)) (sym (c .before .before .call4 .given .1))
 
 -- src/step.rt:183:5
 returns-5 : tie.Need-returns-5
-returns-5 c = ?
+returns-5 c = c .advance .ensures ∙ ap (turnOf (c .before .before .before .before .args .self)) (sym (c .before .before .call5 .given .1))
 
 -- src/step.rt:183:5
 returns-6 : tie.Need-returns-6
-returns-6 c = ?
+returns-6 c = c .deliver .ensures ∙ ap (turnOf (c .before .before .before .args .self)) (sym (c .before .enum-told .given .1))
 
 pub step-spec : {M : Type 1} → statement M
 step-spec =

@@ -18,7 +18,7 @@ writing-requires c κs = search needs
 -- src/step.rt:66:13
 returns : tie.Need-returns
 unfolding writingOf
-returns c = rw (eq-eqb _ _ (c .before .before .if1 .taken), c .before .writing .ensures)
+returns c = rw (eq-eqb _ _ (c .before .before .before .if1 .taken), c .before .writing .ensures)
 
 -- src/step.rt:75:17
 writing-requires-2 : tie.Need-writing-requires-2
@@ -31,7 +31,7 @@ joined-requires c κs = search needs
 -- src/step.rt:78:13
 returns-2 : tie.Need-returns-2
 unfolding writingOf
-returns-2 c = rw (ne-eqb _ _ (c .before .before .before .before .if1 .left), eq-eqb _ _ (c .before .before .before .if2 .taken), ← (c .before .before .writing2 .ensures), c .joined .ensures)
+returns-2 c = rw (ne-eqb _ _ (c .before .before .before .before .before .before .before .if1 .left), eq-eqb _ _ (c .before .before .before .before .before .before .if2 .taken), ← (c .before .before .writing2 .ensures), c .joined .ensures)
 
 -- src/step.rt:83:9
 refused-requires : tie.Need-refused-requires

@@ -1,0 +1,6 @@
+pub mod Rule
+pub mod Formed
+pub mod Fire
+pub mod Turns
+pub mod Ticks
+pub mod Jumps
