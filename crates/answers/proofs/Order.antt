@@ -3,7 +3,12 @@ use mathlib.Core.Path.{_≡_, refl, sym, ap, subst, _∙_}
 use mathlib.Core.Bool.{Bool, true, false, cond}
 use mathlib.Core.List.{List, [], _∷_}
 use Prim.Native.Nat.{ℕ}
+use Rattle.answers.specs.declared.Refusal.{Refusal}
+use Rattle.answers.specs.declared.Answer.{Answer}
+use Rattle.answers.specs.declared.Answer.the-variants as answer
+use Rattle.answers.specs.Numbers.{numberOf, numbersOf}
 use Rattle.answers.specs.Order.{Test, firstNumber, Given, done, here, later}
+use Rattle.answers.proofs.Refused.{answerNumber}
 
 pub given-first : (ts : List Test) → Given ts (firstNumber ts)
 unfolding firstNumber
@@ -27,3 +32,22 @@ module _ (ts : List Test) (k : ℕ) (answered : k ≡ firstNumber ts) (n : ℕ) 
 
   pub if : Given ts n → k ≡ n
   if g = answered ∙ first-given ts n g
+
+-- what the tests decide of a call: the number of its answer, and that a refused one leaves the state
+pub record Decided (S : Type 0) (ts : List Test) (before after : S) (a : Answer) : Type 0 where
+  pub number : answerNumber a ≡ firstNumber ts
+  pub same : (answerNumber a ≡ 0 → ⊥) → after ≡ before
+
+module _ {S : Type 0} (s : S) where
+  pub done-decided : (n : S) (a : Answer) → answerNumber a ≡ 0 → Decided S [] s n a
+  unfolding firstNumber
+  done-decided n a e = record { number = e; same = λ f. absurd (f e) }
+
+  -- a test that holds refuses; one that does not leaves it to the tests after it
+  pub refused-decided : (t : Test) (ts : List Test) (r : Refusal) → t .holds ≡ true → numberOf r ≡ t .number → Decided S (t ∷ ts) s s (answer.Refused r)
+  unfolding firstNumber numbersOf
+  refused-decided t ts r h e = record { number = rw h e; same = λ f. refl }
+
+  pub later-decided : (t : Test) (ts : List Test) (n : S) (a : Answer) → t .holds ≡ false → Decided S ts s n a → Decided S (t ∷ ts) s n a
+  unfolding firstNumber
+  later-decided t ts n a h d = record { number = rw h (d .number); same = d .same }

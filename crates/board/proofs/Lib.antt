@@ -4,3 +4,4 @@ pub mod Fire
 pub mod Turns
 pub mod Ticks
 pub mod Jumps
+pub mod Keeps

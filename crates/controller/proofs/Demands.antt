@@ -11,11 +11,12 @@ use lib.ListN.{getD, set}
 use borrow.Author.Tests.{lt-ltb, le-ltb, lt-leb, ltb-true, ltb-false, leb-false, eqb-true, eq-eqb, ne-eqb}
 use Rattle.answers.specs.declared.Answer.{Answer}
 use Rattle.answers.specs.declared.Answer.the-variants as answer
+use Rattle.answers.specs.declared.Refusal.{Refusal}
 use Rattle.answers.specs.declared.Refusal.the-variants as refusal
 use Rattle.answers.specs.declared.Numbers.{Numbers}
 use Rattle.answers.specs.Numbers.{numberOf, bare, numbersOf}
 use Rattle.answers.specs.Order.{Test, test, firstNumber, Given}
-use Rattle.answers.proofs.Order.{only-if, if}
+use Rattle.answers.proofs.Order.{only-if, if, Decided, done-decided, refused-decided, later-decided}
 use Rattle.answers.proofs.Refused.{answerNumber, refused-bare, one-result}
 use Rattle.pins.proofs.Bools.{not-true-false}
 use Rattle.entries.specs.declared.Entries.{Entries}
@@ -26,7 +27,7 @@ use Rattle.entries.proofs.Pulse.{wired-keeps}
 use Rattle.entries.proofs.Delivery.{Lowest, first-le-24, lowest-found, lowest-of, none-eligible, none-eligible-of, ended-held, taken-held, low-written-held-other, low-written-held, bit-12}
 use Rattle.controller.specs.declared.Controller.{Controller}
 use Rattle.controller.specs.declared.Turn.{Turn}
-use Rattle.controller.specs.State.{withId, withIndex, withEntries, wellFormed, turn, refused}
+use Rattle.controller.specs.State.{withId, withIndex, withEntries, wellFormed, turn, refused, tested}
 use Rattle.controller.specs.Window.{dataRead, dataWritten, entryWritten, readingOf, writingOf, readOf, writeOf}
 use Rattle.controller.specs.Steps.{rewired, wireOf, wiresOf, afterEnd, endOf, deliveringOf, deliverOf}
 use Rattle.controller.specs.Calls.{Call, read, write, wire, wires, end, deliver, turnOf, testsOf}
@@ -34,65 +35,68 @@ use Rattle.controller.proofs.Formed.{Formed, formed, reading-same}
 
 -- ---- refusals
 
-record Decided (c : Controller) (ts : List Test) (t : Turn) : Type 0 where
-  number : answerNumber (t .answer) ≡ firstNumber ts
-  same : (answerNumber (t .answer) ≡ 0 → ⊥) → t .controller ≡ c
+abbrev DecidedTurn : Controller → List Test → Turn → Type 0
+DecidedTurn c ts t = Decided Controller ts c (t .controller) (t .answer)
 
-decided : (c : Controller) (k : Call) → Decided c (testsOf c k) (turnOf c k)
-unfolding turnOf testsOf firstNumber readOf readingOf writeOf writingOf wireOf wiresOf endOf deliverOf deliveringOf numbersOf numberOf
-decided c (read w o) = go (wellFormed c) (eqb w 4) (eqb o 0) (eqb o 0x10)
-  where
-    go :
-        (f a b d : Bool) →
-        Decided c (test 5 (not f) ∷ test 2 (not a) ∷ test 1 (not (b || d)) ∷ [])
-        (cond f (cond a (cond b (turn c (answer.Value (c .index))) (cond d (turn c (answer.Value (dataRead c))) (refused c refusal.Offset))) (refused c refusal.Width)) (refused c refusal.State))
-    go true true true d = record { number = refl; same = λ n. refl }
-    go true true false true = record { number = refl; same = λ n. refl }
-    go true true false false = record { number = refl; same = λ n. refl }
-    go true false b d = record { number = refl; same = λ n. refl }
-    go false a b d = record { number = refl; same = λ n. refl }
-decided c (write w o v) = go (wellFormed c) (eqb w 4) (eqb o 0 || eqb o 0x10) (ltb v (2 ^ 32)) (cond (eqb o 0) (withIndex c (v % 256)) (dataWritten c v))
-  where
-    go :
-        (f a b d : Bool) (n : Controller) →
-        Decided c (test 5 (not f) ∷ test 2 (not a) ∷ test 1 (not b) ∷ test 4 (not d) ∷ [])
-        (cond f (cond a (cond b (cond d (turn n answer.Done) (refused c refusal.Value)) (refused c refusal.Offset)) (refused c refusal.Width)) (refused c refusal.State))
-    go true true true true n = record { number = refl; same = λ x. absurd (x refl) }
-    go true true true false n = record { number = refl; same = λ x. refl }
-    go true true false d n = record { number = refl; same = λ x. refl }
-    go true false b d n = record { number = refl; same = λ x. refl }
-    go false a b d n = record { number = refl; same = λ x. refl }
-decided c (wire p l) = go (wellFormed c) (ltb p 24) (leb l 1) (rewired c (set (c .entries .level) p l))
-  where
-    go :
-        (f a b : Bool) (n : Controller) →
-        Decided c (test 5 (not f) ∷ test 3 (not a) ∷ test 4 (not b) ∷ [])
-        (cond f (cond a (cond b (turn n answer.Done) (refused c refusal.Level)) (refused c refusal.Pin)) (refused c refusal.State))
-    go true true true n = record { number = refl; same = λ x. absurd (x refl) }
-    go true true false n = record { number = refl; same = λ x. refl }
-    go true false b n = record { number = refl; same = λ x. refl }
-    go false a b n = record { number = refl; same = λ x. refl }
-decided c (wires l) = go (wellFormed c) (levelsOk l) (rewired c l)
-  where
-    go :
-        (f a : Bool) (n : Controller) →
-        Decided c (test 5 (not f) ∷ test 4 (not a) ∷ []) (cond f (cond a (turn n answer.Done) (refused c refusal.Level)) (refused c refusal.State))
-    go true true n = record { number = refl; same = λ x. absurd (x refl) }
-    go true false n = record { number = refl; same = λ x. refl }
-    go false a n = record { number = refl; same = λ x. refl }
-decided c (end v) = go (wellFormed c) (afterEnd c v)
-  where
-    go : (f : Bool) (n : Controller) → Decided c (test 5 (not f) ∷ []) (cond f (turn n answer.Done) (refused c refusal.State))
-    go true n = record { number = refl; same = λ x. absurd (x refl) }
-    go false n = record { number = refl; same = λ x. refl }
-decided c deliver = go (wellFormed c) (ltb (firstEligible (c .entries)) 24) (firstEligible (c .entries))
-  where
-    go :
-        (f a : Bool) (i : ℕ) →
-        Decided c (test 5 (not f) ∷ []) (cond f (cond a (turn (withEntries c (taken (c .entries) i)) (given (c .entries) i)) (turn c answer.Nothing)) (refused c refusal.State))
-    go true true i = record { number = refl; same = λ x. absurd (x refl) }
-    go true false i = record { number = refl; same = λ x. refl }
-    go false a i = record { number = refl; same = λ x. refl }
+module _ (c : Controller) where
+  refuses : (n : ℕ) (ts : List Test) (r : Refusal) → numberOf r ≡ n → DecidedTurn c (test n true ∷ ts) (refused c r)
+  refuses n ts r e = refused-decided c (test n true) ts r refl e
+
+  passes : (n : ℕ) (ts : List Test) (t : Turn) → DecidedTurn c ts t → DecidedTurn c (test n false ∷ ts) t
+  passes n ts t d = later-decided c (test n false) ts (t .controller) (t .answer) refl d
+
+  -- refusal 5 is tested first
+  tested-decided : (ts : List Test) (t : Turn) → DecidedTurn c ts t → DecidedTurn c (test 5 (not (wellFormed c)) ∷ ts) (tested c t)
+  unfolding numberOf
+  tested-decided ts t d = go (wellFormed c)
+    where
+      go : (f : Bool) → DecidedTurn c (test 5 (not f) ∷ ts) (cond f t (refused c refusal.State))
+      go true = passes 5 ts t d
+      go false = refuses 5 ts refusal.State refl
+
+  -- a test with its refusal, and what comes after it
+  then : (n : ℕ) (ts : List Test) (r : Refusal) (t : Turn) (f : Bool) → numberOf r ≡ n → DecidedTurn c ts t → DecidedTurn c (test n (not f) ∷ ts) (cond f t (refused c r))
+  then n ts r t true e d = passes n ts t d
+  then n ts r t false e d = refuses n ts r e
+
+  done : (n : Controller) (a : Answer) → answerNumber a ≡ 0 → DecidedTurn c [] (turn n a)
+  done n a e = done-decided c n a e
+
+  pub reading-decided : (w o : ℕ) → DecidedTurn c (test 2 (not (eqb w 4)) ∷ test 1 (not (eqb o 0 || eqb o 0x10)) ∷ []) (readingOf c w o)
+  unfolding readingOf numberOf numbersOf
+  reading-decided w o = then 2 _ refusal.Width _ (eqb w 4) refl (go (eqb o 0) (eqb o 0x10))
+    where
+      go : (x y : Bool) → DecidedTurn c (test 1 (not (x || y)) ∷ []) (cond x (turn c (answer.Value (c .index))) (cond y (turn c (answer.Value (dataRead c))) (refused c refusal.Offset)))
+      go true y = passes 1 [] _ (done c (answer.Value (c .index)) refl)
+      go false true = passes 1 [] _ (done c (answer.Value (dataRead c)) refl)
+      go false false = refuses 1 [] refusal.Offset refl
+
+  pub writing-decided : (w o v : ℕ) → DecidedTurn c (test 2 (not (eqb w 4)) ∷ test 1 (not (eqb o 0 || eqb o 0x10)) ∷ test 4 (not (ltb v (2 ^ 32))) ∷ []) (writingOf c w o v)
+  unfolding writingOf numberOf numbersOf
+  writing-decided w o v =
+      then 2 _ refusal.Width _ (eqb w 4) refl
+      (then 1 _ refusal.Offset _ (eqb o 0 || eqb o 0x10) refl
+      (then 4 [] refusal.Value _ (ltb v (2 ^ 32)) refl (done (cond (eqb o 0) (withIndex c (v % 256)) (dataWritten c v)) answer.Done refl)))
+
+  pub delivering-decided : DecidedTurn c [] (deliveringOf c)
+  unfolding deliveringOf numbersOf
+  delivering-decided = go (ltb (firstEligible (c .entries)) 24)
+    where
+      go : (b : Bool) → DecidedTurn c [] (cond b (turn (withEntries c (taken (c .entries) (firstEligible (c .entries)))) (given (c .entries) (firstEligible (c .entries)))) (turn c answer.Nothing))
+      go true = done (withEntries c (taken (c .entries) (firstEligible (c .entries)))) (given (c .entries) (firstEligible (c .entries))) refl
+      go false = done c answer.Nothing refl
+
+  decided : (k : Call) → DecidedTurn c (testsOf c k) (turnOf c k)
+  unfolding turnOf testsOf readOf writeOf wireOf wiresOf endOf deliverOf numberOf numbersOf
+  decided (read w o) = tested-decided _ (readingOf c w o) (reading-decided w o)
+  decided (write w o v) = tested-decided _ (writingOf c w o v) (writing-decided w o v)
+  decided (wire p l) =
+      tested-decided _ _
+      (then 3 _ refusal.Pin _ (ltb p 24) refl
+      (then 4 [] refusal.Level _ (leb l 1) refl (done (rewired c (set (c .entries .level) p l)) answer.Done refl)))
+  decided (wires l) = tested-decided _ _ (then 4 [] refusal.Level _ (levelsOk l) refl (done (rewired c l) answer.Done refl))
+  decided (end v) = tested-decided [] _ (done (afterEnd c v) answer.Done refl)
+  decided deliver = tested-decided [] (deliveringOf c) delivering-decided
 
 module _ (c : Controller) (k : Call) where
   -- "Given exactly when": a number is given if and only if its test holds and none before it does

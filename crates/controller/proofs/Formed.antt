@@ -16,6 +16,7 @@ use Rattle.entries.specs.Table.{entriesOk, levelsOk, firstEligible, wired, ende
 use Rattle.entries.proofs.Sized.{Sized, wired-sized, ended-sized, taken-sized, low-written-sized, high-written-sized}
 use Rattle.entries.proofs.Formed.{reset-ok, own-levels-ok, wired-ok, ended-ok, taken-ok, low-written-ok, high-written-ok}
 use Rattle.entries.proofs.Pulse.{set-ok}
+use Rattle.entries.proofs.Delivery.{low-written-level, taken-level}
 use Rattle.controller.specs.declared.Controller.{Controller}
 use Rattle.controller.specs.declared.Turn.{Turn}
 use Rattle.controller.specs.State.{resetController, withId, withIndex, withEntries, wellFormed, turn, refused, tested}
@@ -163,3 +164,45 @@ module _ (c : Controller) (e : wellFormed c ≡ true) (z : Sized (c .entries)) w
       go false t = record { formed = e; sized = z }
   keeps (end v) l = rw e (ended-keeps c e z v)
   keeps deliver l = rw e (delivering-keeps c e z)
+
+-- ---- no call but a wire change moves a pin's level: what a board above needs
+
+module _ (c : Controller) where
+  abbrev levels : List ℕ
+  levels = c .entries .level
+
+  data-levels : (v : ℕ) → dataWritten c v .entries .level ≡ levels
+  unfolding dataWritten
+  data-levels v = go (eqb (c .index) 0) (ltb (c .index) 0x10) (leb 0x40 (c .index)) (eqb ((c .index - 0x10) % 2) 0)
+    where
+      go :
+          (a b d m : Bool) →
+          cond a (withId c (v / 2 ^ 24 % 16)) (cond b c (cond d c (withEntries c (cond m (lowWritten (c .entries) ((c .index - 0x10) / 2) v) (highWritten (c .entries) ((c .index - 0x10) / 2) v))))) .entries .level ≡ levels
+      go true b d m = refl
+      go false true d m = refl
+      go false false true m = refl
+      go false false false true = low-written-level (c .entries) ((c .index - 0x10) / 2) v
+      go false false false false = refl
+
+  pub writing-levels : (w o v : ℕ) → writingOf c w o v .controller .entries .level ≡ levels
+  unfolding writingOf
+  writing-levels w o v = go (eqb w 4) (eqb o 0 || eqb o 0x10) (ltb v (2 ^ 32)) (eqb o 0)
+    where
+      go :
+          (a b d n : Bool) →
+          cond a (cond b (cond d (turn (cond n (withIndex c (v % 256)) (dataWritten c v)) answer.Done) (refused c refusal.Value)) (refused c refusal.Offset)) (refused c refusal.Width) .controller .entries .level ≡ levels
+      go true true true true = refl
+      go true true true false = data-levels v
+      go true true false n = refl
+      go true false d n = refl
+      go false b d n = refl
+
+  pub delivering-levels : deliveringOf c .controller .entries .level ≡ levels
+  unfolding deliveringOf
+  delivering-levels = go (ltb (firstEligible (c .entries)) 24)
+    where
+      go :
+          (b : Bool) →
+          cond b (turn (withEntries c (taken (c .entries) (firstEligible (c .entries)))) (given (c .entries) (firstEligible (c .entries)))) (turn c answer.Nothing) .controller .entries .level ≡ levels
+      go true = taken-level (c .entries) (firstEligible (c .entries))
+      go false = refl

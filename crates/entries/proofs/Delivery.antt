@@ -110,3 +110,21 @@ bit-12 e ok i l = go (eligibleAt e i)
     go : (b : Bool) → cond b (lowAt e i - lowAt e i / 4096 % 2 * 4096 + 4096) (lowAt e i) / 4096 % 2 ≡ boolByte b
     go true = with-12 (lowAt e i)
     go false = pins-good e ok i l .status
+
+-- ---- no step but a wire change moves a level
+
+pub ended-level : (e : Entries) (v : ℕ) → ended e v .level ≡ e .level
+unfolding ended
+ended-level e v = refl
+
+pub low-written-level : (e : Entries) (n v : ℕ) → lowWritten e n v .level ≡ e .level
+unfolding lowWritten
+low-written-level e n v = refl
+
+pub taken-level : (e : Entries) (i : ℕ) → taken e i .level ≡ e .level
+unfolding taken
+taken-level e i = go (levelOf (lowAt e i))
+  where
+    go : (b : Bool) → cond b (withLow e (set (e .low) i (withRemote (lowAt e i)))) (withHeld e (set (e .held) i 0)) .level ≡ e .level
+    go true = refl
+    go false = refl

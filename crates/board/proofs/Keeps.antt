@@ -1,0 +1,101 @@
+-- Every call turns a well-formed board into one.
+use Prim.Native.Nat.{ℕ}
+use mathlib.Core.Path.{_≡_, refl, sym, ap, subst, _∙_}
+use mathlib.Core.Bool.{Bool, true, false, cond}
+use mathlib.Core.List.{List}
+use lib.Dec.{leb, ltb, eqb}
+use lib.ListN.{set, replicate}
+use Rattle.answers.specs.declared.Answer.{Answer}
+use Rattle.answers.specs.declared.Answer.the-variants as answer
+use Rattle.answers.specs.declared.Refusal.the-variants as refusal
+use Rattle.entries.proofs.Sized.{Sized as EntriesSized}
+use Rattle.entries.proofs.Pulse.{set-ok}
+use Rattle.entries.proofs.Delivery.{ended-level}
+use Rattle.controller.specs.declared.Controller.{Controller}
+use Rattle.controller.specs.declared.Turn.{Turn as ControllerTurn}
+use Rattle.controller.specs.Window.{readingOf as controllerReading, writingOf as controllerWriting}
+use Rattle.controller.specs.Steps.{afterEnd, deliveringOf}
+use Rattle.controller.proofs.Formed.{Keeps, reading-same, writing-keeps, writing-levels, ended-keeps, delivering-keeps, delivering-levels, reset-formed as controller-reset-formed}
+use Rattle.timers.specs.Call.{readingOf as timersReading, writingOf as timersWriting}
+use Rattle.timers.proofs.Formed.{writing-formed, reset-formed as timers-reset-formed}
+use Rattle.board.specs.declared.Board.{Board}
+use Rattle.board.specs.declared.Call.{Call}
+use Rattle.board.specs.declared.Call.the-variants as call
+use Rattle.board.specs.declared.Turn.{Turn}
+use Rattle.board.specs.State.{board, resetBoard, withController, turn, refused}
+use Rattle.board.specs.Wires.{joined}
+use Rattle.board.specs.Formed.{wellFormed}
+use Rattle.board.specs.Step.{byController, byTimers, readingOf, writingOf, wiringOf, endingOf, advancingOf, deliveringOnBoard, servedOf, turnOf}
+use Rattle.board.proofs.Formed.{Sized, Formed, formed-in, formed-out, joined-formed}
+use Rattle.board.proofs.Ticks.{ticks-formed}
+
+module _ (b : Board) (z : Formed b) where
+  -- a controller that a call left well formed, with the levels that it had
+  with-controller : (t : ControllerTurn) → Keeps t → t .controller .entries .level ≡ b .controller .entries .level → Formed (withController b (t .controller))
+  with-controller t k e = record { controlled = k .formed; timed = z .timed; outer = z .outer; wired = e ∙ z .wired; sized = k .sized }
+
+  reading-keeps : (n w o : ℕ) → Formed (readingOf b n w o .board)
+  unfolding readingOf
+  reading-keeps n w o = go (eqb n 0) (eqb n 1)
+    where
+      go : (x y : Bool) → Formed (cond x (byController b (controllerReading (b .controller) w o)) (cond y (turn b (timersReading (b .timers) w o .answer)) (refused b refusal.Window)) .board)
+      go true y = subst (λ (c : Controller). Formed (withController b c)) (sym (reading-same (b .controller) w o)) z
+      go false true = z
+      go false false = z
+
+  writing-board : (n w o v : ℕ) → Formed (writingOf b n w o v .board)
+  unfolding writingOf
+  writing-board n w o v = go (eqb n 0) (eqb n 1)
+    where
+      go :
+          (x y : Bool) →
+          Formed (cond x (byController b (controllerWriting (b .controller) w o v)) (cond y (byTimers b (timersWriting (b .timers) w o v)) (refused b refusal.Window)) .board)
+      go true y = with-controller (controllerWriting (b .controller) w o v) (writing-keeps (b .controller) (z .controlled) (z .sized) w o v) (writing-levels (b .controller) w o v)
+      go false true =
+          joined-formed (b .controller) (timersWriting (b .timers) w o v .timers) (b .outside) (z .controlled) (z .sized) (writing-formed (b .timers) w o (z .timed) v) (z .outer)
+      go false false = z
+
+  wiring-keeps : (p l : ℕ) → Formed (wiringOf b p l .board)
+  unfolding wiringOf
+  wiring-keeps p l = go (ltb p 24) (leb l 1) refl
+    where
+      go :
+          (x y : Bool) → leb l 1 ≡ y →
+          Formed (cond x (cond y (turn (joined (b .controller) (b .timers) (set (b .outside) p l)) answer.Done) (refused b refusal.Level)) (refused b refusal.Pin) .board)
+      go true true e = joined-formed (b .controller) (b .timers) (set (b .outside) p l) (z .controlled) (z .sized) (z .timed) (set-ok (b .outside) p l e (z .outer))
+      go true false e = z
+      go false y e = z
+
+  served-keeps : (c : Call) → Formed (servedOf b c .board)
+  unfolding servedOf endingOf advancingOf deliveringOnBoard
+  served-keeps (call.Read n w o) = reading-keeps n w o
+  served-keeps (call.Write n w o v) = writing-board n w o v
+  served-keeps (call.Wire p l) = wiring-keeps p l
+  served-keeps (call.End v) =
+      let k = ended-keeps (b .controller) (z .controlled) (z .sized) v in
+      record { controlled = k .formed; timed = z .timed; outer = z .outer; wired = ended-level (b .controller .entries) v ∙ z .wired; sized = k .sized }
+  served-keeps (call.Advance n) = ticks-formed b z n
+  served-keeps call.Deliver = with-controller (deliveringOf (b .controller)) (delivering-keeps (b .controller) (z .controlled) (z .sized)) (delivering-levels (b .controller))
+
+  pub keeps : (c : Call) → Formed (turnOf b c .board)
+  unfolding turnOf
+  keeps c = rw (formed-out b z) (served-keeps c)
+
+-- a refused board is the one that came in
+pub unformed : (b : Board) (c : Call) → wellFormed b ≡ false → turnOf b c ≡ refused b refusal.State
+unfolding turnOf
+unformed b c e = rw e
+
+pub served : (b : Board) (c : Call) → wellFormed b ≡ true → turnOf b c ≡ servedOf b c
+unfolding turnOf
+served b c e = rw e
+
+pub step-formed : (b : Board) (c : Call) → Sized b → wellFormed b ≡ true → wellFormed (turnOf b c .board) ≡ true
+step-formed b c s e = formed-out (turnOf b c .board) (keeps b (formed-in b e s) c)
+
+pub step-sized : (b : Board) (c : Call) → Sized b → wellFormed b ≡ true → Sized (turnOf b c .board)
+step-sized b c s e = keeps b (formed-in b e s) c .sized
+
+-- reset
+pub reset-sized : Sized resetBoard
+reset-sized = record { low = refl; destination = refl; level = refl; held = refl }
