@@ -4,3 +4,5 @@ pub mod Tick
 pub mod Formed
 pub mod Next
 pub mod Step
+pub mod Runs
+pub mod Sheet
