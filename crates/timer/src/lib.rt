@@ -1,10 +1,10 @@
 // One timer of the block, by value: its registers, its firing, and many ticks of it at once.
 ghost use mathlib.Core.Path.{_≡_};
-ghost use Prim.Native.Nat.{_+_, _-_, _*_, _/_, _%_, _^_, _<_, _≤_};
+ghost use Prim.Native.Nat.{_+_, _-_, _*_, _/_, _%_, _^_, _<_};
 ghost use mathlib.Core.Bool.{cond};
 ghost use lib.Dec.{ltb};
 ghost use mir.Val.{boolByte};
-ghost use Rattle.timer.specs.State.{flag, width, reduced, narrowed, blank, resetTimer};
+ghost use Rattle.timer.specs.State.{flag, width, reduced, blank, resetTimer};
 ghost use Rattle.timer.specs.Formed.{flagsFit, narrowFits, timerFormed};
 ghost use Rattle.timer.specs.Registers.{bit, configurationOf, configuredOf, comparedOf, clearedOf};
 ghost use Rattle.timer.specs.Tick.{meets, firing, pulsing, driving};

@@ -1,6 +1,6 @@
 // The timer block: three timers and their counter, by value.
 ghost use mathlib.Core.Path.{_≡_};
-ghost use Prim.Native.Nat.{_+_, _-_, _*_, _/_, _%_, _^_, _<_, _≤_};
+ghost use Prim.Native.Nat.{_+_, _-_, _*_, _/_, _%_, _<_};
 ghost use mathlib.Core.Bool.{cond};
 ghost use Rattle.timer.specs.State.{flag};
 ghost use Rattle.timer.specs.Registers.{bit, clearedOf};
