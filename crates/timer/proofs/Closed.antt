@@ -1,20 +1,20 @@
 -- One timer's closed form is its ticks, at both widths.
-use Prim.Native.Nat.{ℕ, zero, suc, _+_, _-_, _*_, _/_, _%_, _^_, _≤_, _<_}
+use Prim.Native.Nat.{ℕ, zero, suc, _+_, _-_, _*_, _%_, _^_, _≤_, _<_}
 use mathlib.Core.Path.{_≡_, refl, sym, ap, ap₂, _∙_}
 use mathlib.Core.Bool.{Bool, true, false, cond}
 use native.Mathlib.Omega.{arith}
-use native.Mathlib.Nat.{mod-lt, add-mod-mod, add-comm, mod-eq-of-lt, mod-mod, zero-mul, mod-add-mod, add-zero, add-assoc, suc-mul}
+use native.Mathlib.Nat.{mod-lt, add-mod-mod, mod-eq-of-lt, mod-mod, zero-mul, mod-add-mod, add-zero, suc-mul}
 use native.Mathlib.Decide.{decLe, decLt, ℕ-discrete}
 use native.Mathlib.Numerals.{add-one}
 use lib.Pow.{pow-pos, mod-mod-pow}
-use lib.Dec.{eqb, ltb}
+use lib.Dec.{eqb}
 use borrow.Author.Tests.{eq-eqb, ne-eqb, lt-ltb, le-ltb}
 use Rattle.timer.specs.declared.Timer.{Timer}
 use Rattle.timer.specs.State.{flag, width, reduced, narrowed, withStatus, withComparator}
 use Rattle.timer.specs.Tick.{meets, firing}
 use Rattle.timer.specs.Alone.{after, stepped, alone, count, begun}
-use Rattle.timer.specs.Closed.{times, begins, stride, firedTo, closed, Ahead}
-use Rattle.timer.proofs.Width.{times-never, times-early, times-late, grows, hit}
+use Rattle.timer.specs.Closed.{times, begins, stride, closed, Ahead}
+use Rattle.timer.proofs.Width.{times-never, times-early, grows, hit}
 
 -- ---- numbers at a timer's width
 

@@ -1,20 +1,13 @@
 -- Well-formedness of one timer: from the test to the facts and back, and what keeps it.
-use Prim.Native.Nat.{ℕ, _+_, _/_, _%_, _^_, _≤_, _<_, zero-le}
-use mathlib.Core.Path.{_≡_, refl, sym, ap, subst, _∙_}
-use mathlib.Core.Bool.{Bool, true, false, cond, not, _&&_, _||_}
-use mathlib.Core.Logic.{_⊎_, inl, inr}
+use Prim.Native.Nat.{ℕ, _^_, _≤_, _<_}
+use mathlib.Core.Path.{_≡_, refl, subst}
+use mathlib.Core.Bool.{Bool, true, false, _&&_, _||_}
 use native.Mathlib.Omega.{arith}
-use native.Mathlib.Nat.{mod-lt}
-use native.Mathlib.Decide.{ℕ-discrete}
-use lib.Pow.{pow-pos}
-use lib.Dec.{T, eqb, leb, ltb, lit<, lit≤}
+use lib.Dec.{eqb, leb, ltb}
 use borrow.Author.Tests.{eqb-true, eqb-false, eq-eqb, ne-eqb, leb-true, le-leb, ltb-true, lt-ltb}
-use Rattle.pins.proofs.Bools.{clash, and-left, and-right, and-both}
+use Rattle.pins.proofs.Bools.{and-left, and-right, and-both}
 use Rattle.timer.specs.declared.Timer.{Timer}
-use Rattle.timer.specs.State.{flag, width, reduced, narrowed, blank, resetTimer}
 use Rattle.timer.specs.Formed.{flagsFit, narrowFits, timerFormed, Formed}
-use Rattle.timer.specs.Registers.{bit, routed, configuredOf, comparedOf, clearedOf}
-use Rattle.timer.specs.Tick.{firing}
 
 -- ---- one clause: x is 0, or else y holds
 

@@ -1,17 +1,16 @@
 -- What keeps a timer well formed: a firing, and each write to its registers.
 use Prim.Native.Nat.{ℕ, _+_, _/_, _%_, _^_, _≤_, _<_, zero-le}
-use mathlib.Core.Path.{_≡_, refl, sym, ap, subst, _∙_}
+use mathlib.Core.Path.{_≡_, refl}
 use mathlib.Core.Bool.{Bool, true, false, cond}
 use native.Mathlib.Omega.{arith}
 use native.Mathlib.Nat.{mod-lt}
 use lib.Pow.{pow-pos}
-use lib.Dec.{T, eqb, leb, ltb, lit<, lit≤}
-use borrow.Author.Tests.{eqb-true, eqb-false, eq-eqb, ltb-true}
-use Rattle.pins.proofs.Bools.{clash}
+use lib.Dec.{ltb, lit≤}
+use borrow.Author.Tests.{eqb-true, ltb-true}
 use Rattle.timer.specs.declared.Timer.{Timer}
 use Rattle.timer.specs.State.{flag, width, reduced, narrowed, withComparator, withPeriod, withSet, blank, resetTimer}
 use Rattle.timer.specs.Formed.{timerFormed, flagsFit, narrowFits, Formed}
-use Rattle.timer.specs.Registers.{bit, routed, configuredOf, comparedOf, clearedOf}
+use Rattle.timer.specs.Registers.{bit, configuredOf, comparedOf, clearedOf}
 use Rattle.timer.specs.Tick.{firing}
 use Rattle.timer.proofs.Formed.{formed-in, formed-out}
 

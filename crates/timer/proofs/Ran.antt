@@ -3,14 +3,13 @@ use Prim.Native.Nat.{ℕ, zero, suc, _+_, _-_, _*_, _/_, _%_, _^_, _≤_, _<_}
 use mathlib.Core.Path.{_≡_, refl, sym, ap, ap₂, _∙_}
 use mathlib.Core.Bool.{Bool, true, false, cond}
 use native.Mathlib.Omega.{arith}
-use native.Mathlib.Nat.{mod-lt, mod-mod, mod-add-mod, add-mod-mod, add-comm, div-mul-le-self, div-le-self}
+use native.Mathlib.Nat.{mod-lt, mod-add-mod, add-mod-mod, add-comm, div-mul-le-self, div-le-self}
 use native.Mathlib.Decide.{decLe, decLt}
 use lib.Pow.{pow-pos}
 use Rattle.timer.specs.declared.Timer.{Timer}
-use Rattle.timer.specs.declared.Run.{Run}
 use Rattle.timer.specs.State.{flag, width, reduced, narrowed, withStatus, withComparator}
 use Rattle.timer.specs.Tick.{firing}
-use Rattle.timer.specs.Alone.{alone, count, begun, run, runOf}
+use Rattle.timer.specs.Alone.{run, runOf}
 use Rattle.timer.specs.Closed.{times, stride, firedTo, closed, begins, Ahead}
 use Rattle.timer.proofs.Width.{times-never, times-early, times-late}
 use Rattle.timer.proofs.Closed.{wrap, reduced-mod, steps-mod, alone-closed, count-closed, begun-closed, begins-early, begins-late}

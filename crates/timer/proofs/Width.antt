@@ -1,15 +1,14 @@
 -- Comparator facts, once over the width w: places on a counter of 2^w, and how many firings fall into n ticks.
-use Prim.Native.Nat.{ℕ, zero, suc, _+_, _-_, _*_, _/_, _%_, _^_, _≤_, _<_}
-use mathlib.Core.Path.{_≡_, refl, sym, ap, _∙_, subst}
+use Prim.Native.Nat.{ℕ, suc, _+_, _-_, _*_, _/_, _%_, _^_, _≤_, _<_}
+use mathlib.Core.Path.{_≡_, refl, sym, ap, _∙_}
 use mathlib.Core.Bool.{Bool, true, false, cond}
-use mathlib.Core.Logic.{⊎-elim}
 use native.Mathlib.Omega.{arith}
-use native.Mathlib.Nat.{div-add-mod', mod-lt, mul-le-mul-right, suc-mul, mod-eq-of-lt, div-zero, zero-div, mul-zero, zero-mul, lt-div-mul-add, div-mul-le-self, div-eq-of-lt-le, mod-add-mod, add-assoc}
+use native.Mathlib.Nat.{div-add-mod', mul-le-mul-right, suc-mul, div-zero, zero-div, zero-mul, lt-div-mul-add, div-mul-le-self, div-eq-of-lt-le, mod-add-mod, add-assoc}
 use native.Mathlib.Decide.{decLe, decLt, ℕ-discrete}
 use native.Mathlib.Numerals.{add-one}
 use Rattle.timer.specs.Closed.{times}
-use lib.Pow.{pow-pos, mod-mod-pow}
-use lib.Dec.{eqb, ltb}
+use lib.Pow.{pow-pos}
+use lib.Dec.{eqb}
 use borrow.Author.Tests.{eq-eqb, ne-eqb, eqb-true, eqb-false, lt-ltb, le-ltb}
 
 -- two tests agree if the equations that they test do

@@ -1,6 +1,6 @@
 -- What a firing does to the wire of the timer's pin.
 use Prim.Native.Nat.{ℕ}
-use mathlib.Core.Path.{_≡_, refl, sym, ap, subst, _∙_}
+use mathlib.Core.Path.{_≡_, refl, sym, ap, subst}
 use mathlib.Core.Bool.{Bool, true, false, cond, not, _&&_, _||_}
 use lib.Dec.{T, eqb}
 use Rattle.timer.specs.declared.Timer.{Timer}

@@ -1,10 +1,10 @@
 -- Register writes as the code makes them.
-use Prim.Native.Nat.{ℕ, _+_, _*_, _%_, _^_}
-use mathlib.Core.Path.{_≡_, sym, ap, ap₂, _∙_}
-use mathlib.Core.Bool.{Bool, true, false, cond}
+use Prim.Native.Nat.{ℕ}
+use mathlib.Core.Path.{_≡_, ap, ap₂, _∙_}
+use mathlib.Core.Bool.{true, false, cond}
 use Rattle.timer.specs.declared.Timer.{Timer}
-use Rattle.timer.specs.State.{flag, reduced, narrowed, withStatus, withComparator, withPeriod, withRoute, withSet, withModes}
-use Rattle.timer.specs.Registers.{bit, routed, configuredOf, comparedOf}
+use Rattle.timer.specs.State.{flag, reduced, narrowed, withComparator, withPeriod, withSet}
+use Rattle.timer.specs.Registers.{comparedOf}
 
 pub compared-periodic :
     (t : Timer) (v x k : ℕ) → flag (t .periodic) ≡ true → x ≡ reduced (narrowed t) v → k ≡ cond (flag (t .«set_comparator»)) x (t .comparator) →

@@ -1,7 +1,7 @@
 -- The closed form of many ticks of one timer: only inner functions cite it, and proofs/Closed.antt shows that it is the ticks.
 use Prim.Native.Nat.{ℕ, zero, suc, _+_, _-_, _*_, _/_, _%_, _^_, _<_}
 use mathlib.Core.Path.{_≡_}
-use mathlib.Core.Bool.{Bool, cond}
+use mathlib.Core.Bool.{cond}
 use lib.Dec.{eqb, ltb}
 use Rattle.timer.specs.declared.Timer.{Timer}
 use Rattle.timer.specs.State.{flag, width, narrowed, withStatus, withComparator}

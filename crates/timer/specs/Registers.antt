@@ -1,6 +1,6 @@
 -- "Timer registers", one timer's: 0x100 + 0x20n, its configuration, and 0x108 + 0x20n, its comparator.
 use Prim.Native.Nat.{ℕ, _+_, _*_, _/_, _%_, _^_}
-use mathlib.Core.Bool.{Bool, cond, _&&_}
+use mathlib.Core.Bool.{cond}
 use lib.Dec.{ltb}
 use mir.Val.{boolByte}
 use Rattle.timer.specs.declared.Timer.{Timer}

@@ -1,10 +1,10 @@
 // One timer of the block, by value: its registers, its firing, and many ticks of it at once.
 ghost use mathlib.Core.Path.{_≡_};
-ghost use Prim.Native.Nat.{_+_, _-_, _*_, _/_, _%_, _^_, _<_, _≤_};
+ghost use Prim.Native.Nat.{_+_, _-_, _*_, _/_, _%_, _^_, _<_};
 ghost use mathlib.Core.Bool.{cond};
 ghost use lib.Dec.{ltb};
 ghost use mir.Val.{boolByte};
-ghost use Rattle.timer.specs.State.{flag, width, reduced, narrowed, blank, resetTimer};
+ghost use Rattle.timer.specs.State.{flag, width, reduced, blank, resetTimer};
 ghost use Rattle.timer.specs.Formed.{flagsFit, narrowFits, timerFormed};
 ghost use Rattle.timer.specs.Registers.{bit, configurationOf, configuredOf, comparedOf, clearedOf};
 ghost use Rattle.timer.specs.Tick.{meets, firing, pulsing, driving};
@@ -90,15 +90,35 @@ fn choose_flag(b: bool, x: u8, y: u8) -> u8
 fn routed(v: u64, old: u16) -> u16
     ensures { λ r. ⌜ r ≡ cond (ltb (v / 2 ^ 9 % 2 ^ 5) 24) (v / 2 ^ 9 % 2 ^ 5) old ⌝ }
 {
-    let x = (v >> 9) & 31;
+    let x = (v >> Timer::ROUTE) & Timer::ROUTE_MASK;
     if x < 24 { x as u16 } else { old }
 }
 
 impl Timer {
-    // Configuration: bits 5 and 4 read 1.
+    // ---- the configuration register, by bit position
+
+    // writable
+    pub const LEVEL_TYPE: u32 = 1;
+
+    pub const INTERRUPT: u32 = 2;
+
+    pub const PERIODIC: u32 = 3;
+    // kept only if bit 3 is written 1
+    pub const SET_COMPARATOR: u32 = 6;
+    // 32-bit mode
+    pub const NARROW: u32 = 8;
+    // 13:9
+    pub const ROUTE: u64 = 9;
+
+    pub const ROUTE_MASK: u64 = 0x1F;
+    // bits 5 and 4 read 1
     pub const CAPABLE: u64 = 0x30;
-    // Configuration: bits 63:32 read 0x00FFFFFF.
+    // bits 63:32 read 0x00FFFFFF
     pub const ROUTES: u64 = 0x00FFFFFF00000000;
+
+    // ---- reset
+
+    pub const RESET_COMPARATOR: u64 = 0xFFFFFFFFFFFFFFFF;
 
     // Every number 0.
     pub fn blank() -> Timer
@@ -122,7 +142,7 @@ impl Timer {
         ensures { λ r. ⌜ r ≡ resetTimer ⌝ }
     {
         Timer {
-            comparator: u64::MAX,
+            comparator: Timer::RESET_COMPARATOR,
             period: 0,
             route: 0,
             level_type: 0,
@@ -255,28 +275,29 @@ impl Timer {
     pub fn configuration(self) -> u64
         ensures { λ r. ⌜ r ≡ configurationOf self ⌝ }
     {
-        let low = placed(self.periodic, 3)
-            | (placed(self.interrupt, 2) | placed(self.level_type, 1));
-        let high = placed(self.narrow, 8)
-            | (placed(self.set_comparator, 6) | (low | Timer::CAPABLE));
-        (((self.route as u64) << 9) | high) | Timer::ROUTES
+        let low = placed(self.periodic, Timer::PERIODIC)
+            | (placed(self.interrupt, Timer::INTERRUPT)
+                | placed(self.level_type, Timer::LEVEL_TYPE));
+        let high = placed(self.narrow, Timer::NARROW)
+            | (placed(self.set_comparator, Timer::SET_COMPARATOR) | (low | Timer::CAPABLE));
+        (((self.route as u64) << Timer::ROUTE) | high) | Timer::ROUTES
     }
 
     // A write to its configuration register.
     pub fn configured(self, value: u64) -> Timer
         ensures { λ r. ⌜ r ≡ configuredOf self value ⌝ }
     {
-        let level_type = bit(value, 1);
-        let periodic = bit(value, 3);
-        let narrow = bit(value, 8);
+        let level_type = bit(value, Timer::LEVEL_TYPE);
+        let periodic = bit(value, Timer::PERIODIC);
+        let narrow = bit(value, Timer::NARROW);
         Timer {
             comparator: reduced(narrow == 1, self.comparator),
             period: reduced(narrow == 1, self.period),
             route: routed(value, self.route),
             level_type,
-            interrupt: bit(value, 2),
+            interrupt: bit(value, Timer::INTERRUPT),
             periodic,
-            set_comparator: choose_flag(periodic == 1, bit(value, 6), 0),
+            set_comparator: choose_flag(periodic == 1, bit(value, Timer::SET_COMPARATOR), 0),
             narrow,
             status: choose_flag(level_type == 1, self.status, 0),
         }

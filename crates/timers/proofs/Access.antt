@@ -1,26 +1,23 @@
 -- Accesses as the code takes them: by the offset, and a call's refusals.
 use Prim.Native.Nat.{ℕ, _+_, _*_, _/_, _%_, _^_, _≤_, _<_}
-use mathlib.Core.Path.{_≡_, refl, sym, ap, ap₂, _∙_}
-use mathlib.Core.Bool.{Bool, true, false, cond, _&&_}
+use mathlib.Core.Path.{_≡_, refl, ap, _∙_}
+use mathlib.Core.Bool.{Bool, true, false, cond}
 use mathlib.Core.List.{[], _∷_}
 use native.Mathlib.Omega.{arith}
 use lib.Bits.{bitOr, or-shifted}
-use lib.Dec.{eqb, leb, ltb}
 use lib.ListN.{getD}
 use mir.Val.{boolByte}
 use borrow.Author.Tests.{ne-eqb, le-leb, lt-leb, lt-ltb, le-ltb}
 use Rattle.answers.specs.declared.Refusal.the-variants as refusal
-use Rattle.answers.specs.declared.Answer.{Answer}
 use Rattle.answers.specs.declared.Answer.the-variants as answer
 use Rattle.timer.specs.declared.Timer.{Timer}
 use Rattle.timer.specs.State.{flag}
 use Rattle.timer.specs.Registers.{bit, placed, clearedOf}
 use Rattle.timers.specs.declared.Timers.{Timers}
-use Rattle.timers.specs.declared.Turn.{Turn}
 use Rattle.timers.specs.declared.Ran.{Ran}
-use Rattle.timers.specs.State.{at, isEnabled, withCounter, withEnabled, withTimers, withTimer}
+use Rattle.timers.specs.State.{at, isEnabled, withCounter, withEnabled, withList, withTimers, withTimer}
 use Rattle.timers.specs.Formed.{wellFormed}
-use Rattle.timers.specs.Registers.{aligned, inside, numbered, statusOf, timerRegister, registerOf, clearedBy, timerWritten, writtenOf}
+use Rattle.timers.specs.Registers.{aligned, numbered, statusOf, timerRegister, registerOf, clearedBy, timerWritten, writtenOf}
 use Rattle.timers.specs.Tick.{ticks, firings, ranOf}
 use Rattle.timers.specs.Call.{turn, refused, readingOf, writingOf, advancingOf, readOf, writeOf, advanceOf}
 
@@ -172,13 +169,9 @@ module _ (s : Timers) (n : ℕ) where
 pub cleared-code :
     (s : Timers) (v b0 b1 b2 : ℕ) (x0 x1 x2 : Timer) → b0 ≡ bit 0 v → b1 ≡ bit 1 v → b2 ≡ bit 2 v → x0 ≡ cond (flag b0) (clearedOf (at s 0)) (at s 0) →
     x1 ≡ cond (flag b1) (clearedOf (at s 1)) (at s 1) → x2 ≡ cond (flag b2) (clearedOf (at s 2)) (at s 2) →
-    record { counter = s .counter; enabled = s .enabled; timer = x0 ∷ x1 ∷ x2 ∷ [] } ≡ withTimers s (clearedBy v s)
+    withList s (x0 ∷ x1 ∷ x2 ∷ []) ≡ withTimers s (clearedBy v s)
 cleared-code s v b0 b1 b2 x0 x1 x2 e0 e1 e2 f0 f1 f2 =
-    λ i. record {
-      counter = s .counter;
-      enabled = s .enabled;
-      timer = (f0 ∙ ap (by 0) e0) i ∷ (f1 ∙ ap (by 1) e1) i ∷ (f2 ∙ ap (by 2) e2) i ∷ [];
-    }
+    λ i. withList s ((f0 ∙ ap (by 0) e0) i ∷ (f1 ∙ ap (by 1) e1) i ∷ (f2 ∙ ap (by 2) e2) i ∷ [])
   where
     by : ℕ → ℕ → Timer
     by m b = cond (flag b) (clearedOf (at s m)) (at s m)

@@ -3,7 +3,7 @@ use Prim.Native.Nat.{ℕ, suc, _+_, _*_, _%_, _^_, _<_}
 use mathlib.Core.Path.{_≡_, refl, sym, ap, ap₂, _∙_}
 use mathlib.Core.Bool.{Bool, true, false, cond}
 use mathlib.Core.List.{List, [], _∷_}
-use mathlib.Core.Logic.{_↔_, Iff·trans}
+use mathlib.Core.Logic.{_↔_}
 use native.Mathlib.Omega.{arith}
 use lib.Dec.{eqb}
 use Rattle.pins.proofs.Bools.{clash}
@@ -18,8 +18,8 @@ use Rattle.timers.specs.State.{at, resetTimers}
 use Rattle.timers.specs.Formed.{wellFormed}
 use Rattle.timers.specs.Registers.{aligned, inside}
 use Rattle.timers.specs.Tick.{ticks, firings, ranOf}
-use Rattle.timers.specs.Call.{turn, readingOf, writingOf, readOf, writeOf, advanceOf}
-use Rattle.timers.proofs.Access.{read-done, write-done, advance-done, advancing-is}
+use Rattle.timers.specs.Call.{turn, readOf, writeOf, advanceOf}
+use Rattle.timers.proofs.Access.{write-done, advance-done, advancing-is}
 use Rattle.timers.proofs.Formed.{reset-formed, ticks-formed, read-timers, writing-formed}
 use Rattle.timers.proofs.Numbers.{number, value, fired, Unchanged, accessNumber, read-number, write-number, exactly-0, exactly-1, exactly-2, exactly-5, advance-number, advance-fired, advance-timers, read-refusing, write-refusing, advance-refusing}
 use Rattle.timers.proofs.Portions.{ticks-add, firings-add, total}

@@ -2,22 +2,19 @@
 use Prim.Native.Nat.{ℕ, zero, suc, _+_, _%_, _^_, _<_, _≤_}
 use mathlib.Core.Path.{_≡_, refl, sym, ap, ap₂, _∙_}
 use mathlib.Core.Bool.{Bool, true, false, cond, _&&_}
-use mathlib.Core.List.{List}
 use native.Mathlib.Omega.{arith}
 use native.Mathlib.Nat.{mod-eq-of-lt, add-zero}
 use native.Mathlib.Decide.{ℕ-discrete}
-use lib.Dec.{eqb, lit≤}
+use lib.Dec.{eqb}
 use lib.ListN.{length}
-use borrow.Author.Tests.{eq-eqb, ne-eqb}
-use Rattle.timer.specs.declared.Timer.{Timer}
-use Rattle.timer.specs.State.{flag, blank}
+use Rattle.timer.specs.State.{flag}
 use Rattle.timer.specs.Tick.{meets, firing}
 use Rattle.timer.specs.Alone.{after, stepped, alone, count, begun}
 use Rattle.timer.proofs.Alone.{stepped-is, alone-zero, alone-suc, count-zero, count-suc, begun-zero, begun-suc, after-suc}
 use Rattle.timers.specs.declared.Timers.{Timers}
-use Rattle.timers.specs.State.{three, at, isEnabled, withCounter, withTimers, withTimer}
+use Rattle.timers.specs.State.{at, isEnabled}
 use Rattle.timers.specs.Tick.{countedOf, matchesOf, firedOf, turnedOf, upTo, tick, firesIn, ticks, firings, first}
-use Rattle.timers.proofs.Three.{three-same, of-three, at-same, at-other, eta}
+use Rattle.timers.proofs.Three.{at-same, at-other}
 
 -- the counter goes up by one
 abbrev pub up : ℕ → ℕ

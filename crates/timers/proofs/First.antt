@@ -7,7 +7,7 @@ use native.Mathlib.Omega.{arith}
 use native.Mathlib.Nat.{add-zero, add-suc}
 use native.Mathlib.Decide.{ℕ-discrete}
 use lib.Dec.{eqb, eqb·suc-zero}
-use borrow.Author.Tests.{ne-eqb, eq-eqb}
+use borrow.Author.Tests.{ne-eqb}
 use Rattle.timers.specs.declared.Timers.{Timers}
 use Rattle.timers.specs.Tick.{ticks, firesIn, first}
 use Rattle.timers.proofs.Portions.{ticks-add}

@@ -1,6 +1,6 @@
 -- Well-formedness of the block: from the test to the facts and back, and what keeps it.
-use Prim.Native.Nat.{ℕ, zero, suc, _/_, _%_, _^_, _<_, _≤_}
-use mathlib.Core.Path.{_≡_, refl, sym, ap, _∙_}
+use Prim.Native.Nat.{ℕ, zero, suc, _<_, _≤_}
+use mathlib.Core.Path.{_≡_, refl, ap, _∙_}
 use mathlib.Core.Bool.{Bool, true, false, cond, _&&_}
 use native.Mathlib.Omega.{arith}
 use lib.Dec.{eqb, leb, ltb, lit<, lit≤}
@@ -8,19 +8,18 @@ use borrow.Author.Tests.{leb-true, le-leb, ltb-true}
 use Rattle.pins.proofs.Bools.{and-left, and-right, and-both}
 use Rattle.timer.specs.declared.Timer.{Timer}
 use Rattle.timer.specs.State.{flag, resetTimer}
-use Rattle.timer.specs.Formed.{timerFormed, Formed as FormedTimer}
+use Rattle.timer.specs.Formed.{timerFormed}
 use Rattle.timer.specs.Registers.{bit, configuredOf, comparedOf, clearedOf}
 use Rattle.timer.specs.Tick.{firing}
 use Rattle.timer.proofs.Formed.{formed-in as timer-in, formed-out as timer-out}
-use Rattle.timer.proofs.Kept.{firing-formed, configured-formed, compared-formed, cleared-formed, blank-formed, reset-formed as reset-timer-formed}
+use Rattle.timer.proofs.Kept.{firing-formed, configured-formed, compared-formed, cleared-formed, reset-formed as reset-timer-formed}
 use Rattle.timers.specs.declared.Timers.{Timers}
 use Rattle.timers.specs.declared.Turn.{Turn}
 use Rattle.timers.specs.State.{at, isEnabled, withCounter, withEnabled, withTimers, withTimer, resetTimers}
 use Rattle.timers.specs.Formed.{wellFormed, Formed}
 use Rattle.timers.specs.Registers.{isConfiguration, isComparator, ofTimer, numbered, aligned, inside, clearedBy, timerWritten, writtenOf, registerOf}
-use Rattle.timers.specs.Tick.{countedOf, matchesOf, firedOf, turnedOf, upTo, tick, ticks, routeOf}
-use Rattle.timers.specs.Call.{turn, refused, readingOf, writingOf, advancingOf, readOf, writeOf, advanceOf}
-use Rattle.answers.specs.declared.Refusal.{Refusal}
+use Rattle.timers.specs.Tick.{countedOf, firedOf, turnedOf, upTo, tick, ticks, routeOf}
+use Rattle.timers.specs.Call.{turn, refused, readingOf, writingOf, readOf}
 use Rattle.answers.specs.declared.Refusal.the-variants as refusal
 use Rattle.answers.specs.declared.Answer.the-variants as answer
 use Rattle.timers.proofs.Three.{at-three}

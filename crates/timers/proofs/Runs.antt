@@ -1,15 +1,14 @@
 -- Two runs that agree on all but one timer.
-use Prim.Native.Nat.{ℕ, zero, suc, _+_, _<_, _≤_}
+use Prim.Native.Nat.{ℕ, zero, suc, _+_, _<_}
 use mathlib.Core.Path.{_≡_, refl, sym, ap, ap₂, _∙_}
-use mathlib.Core.Bool.{Bool, true, false, cond, _&&_}
-use lib.Dec.{eqb}
+use mathlib.Core.Bool.{Bool, cond, _&&_}
 use Rattle.timer.specs.declared.Timer.{Timer}
 use Rattle.timer.specs.State.{flag}
 use Rattle.timer.specs.Tick.{meets}
 use Rattle.timer.specs.Alone.{stepped}
 use Rattle.timers.specs.declared.Timers.{Timers}
-use Rattle.timers.specs.State.{at, isEnabled}
-use Rattle.timers.specs.Tick.{tick, firesIn, ticks, firings, first}
+use Rattle.timers.specs.State.{at}
+use Rattle.timers.specs.Tick.{tick, firesIn, ticks, firings}
 use Rattle.timers.proofs.Each.{up, tick-enabled, tick-counter, tick-at, fires-in}
 
 -- they agree on the counter, the enable bit and every timer but m

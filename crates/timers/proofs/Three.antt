@@ -1,17 +1,16 @@
 -- Lists by the timers' numbers, and a block with another timer.
 use Prim.Native.Nat.{ℕ, zero, suc, _<_, _≤_}
-use mathlib.Core.Path.{_≡_, refl, sym, ap, _∙_}
-use mathlib.Core.Bool.{Bool, true, false, cond}
+use mathlib.Core.Path.{_≡_, refl, ap, _∙_}
+use mathlib.Core.Bool.{cond}
 use mathlib.Core.List.{List, [], _∷_}
 use native.Mathlib.Omega.{arith}
-use native.Mathlib.Decide.{ℕ-discrete}
-use lib.Dec.{eqb, eqb·suc-zero, eqb·suc-suc}
+use lib.Dec.{eqb}
 use lib.ListN.{getD, set, length}
 use borrow.Author.Tests.{eq-eqb, ne-eqb}
 use Rattle.timer.specs.declared.Timer.{Timer}
 use Rattle.timer.specs.State.{blank}
 use Rattle.timers.specs.declared.Timers.{Timers}
-use Rattle.timers.specs.State.{three, at, withTimers, withTimer}
+use Rattle.timers.specs.State.{three, at, withList, withTimers, withTimer}
 
 pub at-three : {A : Type 0} (f : ℕ → A) (z : A) (m : ℕ) → m < 3 → getD (three f) m z ≡ f m
 at-three f z zero l = refl
@@ -50,15 +49,15 @@ module _ (s : Timers) (m : ℕ) (x : Timer) where
 
 -- a block is its three timers, and its numbers
 pub eta : (s : Timers) → length (s .timer) ≡ 3 → s ≡ withTimers s (at s)
-eta s e = ap (λ (l : List Timer). record { counter = s .counter; enabled = s .enabled; timer = l }) (of-three (s .timer) blank e)
+eta s e = ap (withList s) (of-three (s .timer) blank e)
 
-pub stored : (s : Timers) (m : ℕ) (x : Timer) → length (s .timer) ≡ 3 → m < 3 → record { counter = s .counter; enabled = s .enabled; timer = set (s .timer) m x } ≡ withTimer s m x
-stored s m x e l = ap (λ (k : List Timer). record { counter = s .counter; enabled = s .enabled; timer = k }) (set-three (s .timer) blank x m e l)
+pub stored : (s : Timers) (m : ℕ) (x : Timer) → length (s .timer) ≡ 3 → m < 3 → withList s (set (s .timer) m x) ≡ withTimer s m x
+stored s m x e l = ap (withList s) (set-three (s .timer) blank x m e l)
 
 pub not-stored : (s : Timers) (m : ℕ) (x : Timer) → length (s .timer) ≡ 3 → 3 ≤ m → s ≡ withTimer s m x
 not-stored s m x e l =
     eta s e
-    ∙ ap (λ (k : List Timer). record { counter = s .counter; enabled = s .enabled; timer = k })
+    ∙ ap (withList s)
     (three-same (at s) (λ i. cond (eqb i m) x (at s i)) (λ j h. rw (ne-eqb j m (λ q. omega arith))))
 
 -- past the last there is none

@@ -1,13 +1,12 @@
 -- A tick turn by turn, and many ticks one by one: for whoever joins the timers to wires.
 use Prim.Native.Nat.{ℕ, zero, suc, _+_, _<_, _≤_}
-use mathlib.Core.Path.{_≡_, refl, sym, ap, _∙_}
+use mathlib.Core.Path.{_≡_, refl, _∙_}
 use mathlib.Core.Bool.{Bool, true, false, cond}
 use native.Mathlib.Omega.{arith}
 use lib.Dec.{eqb}
 use lib.ListN.{getD}
-use Rattle.timer.specs.State.{flag}
 use Rattle.timers.specs.declared.Timers.{Timers}
-use Rattle.timers.specs.State.{three, at, isEnabled}
+use Rattle.timers.specs.State.{three, isEnabled}
 use Rattle.timers.specs.Tick.{countedOf, matchesOf, firedOf, turnedOf, upTo, tick, firesIn, ticks, firings, first, ranOf, drivesOf, pulsesOf, routeOf}
 use Rattle.timers.proofs.Three.{at-three}
 use Rattle.timers.proofs.Each.{by-turn}

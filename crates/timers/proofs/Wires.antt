@@ -1,8 +1,7 @@
 -- The timers' part of the wire rule, and what counting and firing do to it.
-use Prim.Native.Nat.{ℕ, zero, suc, _<_, _≤_}
-use mathlib.Core.Path.{_≡_, refl, sym, ap, ap₂, _∙_}
-use mathlib.Core.Bool.{Bool, true, false, cond, _&&_, _||_}
-use native.Mathlib.Omega.{arith}
+use Prim.Native.Nat.{ℕ, _<_}
+use mathlib.Core.Path.{_≡_, refl, ap, ap₂, _∙_}
+use mathlib.Core.Bool.{Bool, true, false, _&&_, _||_}
 use native.Mathlib.Decide.{ℕ-discrete}
 use lib.Dec.{lit<}
 use Rattle.timer.specs.declared.Timer.{Timer}
@@ -10,8 +9,8 @@ use Rattle.timer.specs.State.{flag}
 use Rattle.timer.specs.Tick.{meets, firing, pulsing, driving}
 use Rattle.timer.proofs.Wire.{risen, firing-route, firing-pulsing, firing-risen, pulsing-risen, driving-same, driving-more}
 use Rattle.timers.specs.declared.Timers.{Timers}
-use Rattle.timers.specs.State.{at, isEnabled}
-use Rattle.timers.specs.Tick.{countedOf, matchesOf, firedOf, turnedOf, upTo, tick, ticks, drivesOf, pulsesOf, routeOf}
+use Rattle.timers.specs.State.{at, resetTimers}
+use Rattle.timers.specs.Tick.{countedOf, matchesOf, firedOf, drivesOf, pulsesOf, routeOf}
 use Rattle.timers.proofs.Each.{fired-counter, fired-enabled, fired-same, fired-other}
 
 -- timer m is edge type, or has its status set: its firing moves no wire but by a pulse
@@ -115,3 +114,9 @@ module _ (s : Timers) (m : ℕ) where
     -- wires only rise
     pub fired-drives-more : drivesOf s p ≡ true → drivesOf (firedOf s m) p ≡ true
     fired-drives-more = drives-more s (firedOf s m) p (fired-enabled s m) (λ j l q. by-firing (λ t. driving t p ≡ true) j l (λ e. driving-more (at s m) p (rw e at q)) q)
+
+-- ---- reset: no wire is driven
+
+pub reset-drives : (p : ℕ) → drivesOf resetTimers p ≡ false
+unfolding drivesOf resetTimers
+reset-drives p = refl

@@ -1,6 +1,5 @@
 -- "Well formed", the timers' part.
 use Prim.Native.Nat.{ℕ, _≤_, _<_}
-use mathlib.Core.Path.{_≡_}
 use mathlib.Core.Bool.{Bool, _&&_}
 use lib.Dec.{leb}
 use Rattle.timer.specs.Formed.{timerFormed, Formed as FormedTimer}

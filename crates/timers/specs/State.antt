@@ -28,13 +28,19 @@ withCounter s x = record { counter = x; enabled = s .enabled; timer = s .timer }
 abbrev pub withEnabled : Timers → ℕ → Timers
 withEnabled s x = record { counter = s .counter; enabled = x; timer = s .timer }
 
+abbrev pub withList : Timers → List Timer → Timers
+withList s l = record { counter = s .counter; enabled = s .enabled; timer = l }
+
 abbrev pub withTimers : Timers → (ℕ → Timer) → Timers
-withTimers s f = record { counter = s .counter; enabled = s .enabled; timer = three f }
+withTimers s f = withList s (three f)
 
 abbrev pub withTimer : Timers → ℕ → Timer → Timers
 withTimer s m x = withTimers s (λ i. cond (eqb i m) x (at s i))
 
 -- ---- reset: everything writable 0, except comparators, which are 2^64 - 1
 
+abbrev pub allZero : Timers
+allZero = record { counter = 0; enabled = 0; timer = [] }
+
 unfoldable pub resetTimers : Timers
-resetTimers = record { counter = 0; enabled = 0; timer = three (λ i. resetTimer) }
+resetTimers = withTimers allZero (λ i. resetTimer)

@@ -1,6 +1,6 @@
 // The timer block: three timers and their counter, by value.
 ghost use mathlib.Core.Path.{_≡_};
-ghost use Prim.Native.Nat.{_+_, _-_, _*_, _/_, _%_, _^_, _<_, _≤_};
+ghost use Prim.Native.Nat.{_+_, _-_, _*_, _/_, _%_, _<_};
 ghost use mathlib.Core.Bool.{cond};
 ghost use Rattle.timer.specs.State.{flag};
 ghost use Rattle.timer.specs.Registers.{bit, clearedOf};
@@ -11,8 +11,7 @@ ghost use Rattle.timers.specs.Tick.{countedOf, matchesOf, firedOf, drive
 ghost use Rattle.timers.specs.Call.{refused, readingOf, writingOf, readOf, writeOf, advanceOf};
 use answers::Answer;
 use answers::Refusal;
-use timer::Run;
-use timer::Timer;
+pub use timer::Timer;
 
 // `enabled` is 0 or 1: any other value is a state that is not well formed. No byte of it is padding.
 #[repr(C)]
@@ -40,7 +39,7 @@ impl Timers {
 
     // read only
     pub const CAPABILITIES: u64 = 0x000;
-    // bit 0 enable
+
     pub const CONFIGURATION: u64 = 0x010;
     // bit n is timer n's status; writing 1 to it clears it
     pub const STATUS: u64 = 0x020;
@@ -61,6 +60,11 @@ impl Timers {
 
     // period 100,000,000 fs, vendor 0x8086, 64-bit counter, three timers, revision 1
     pub const CAPABILITIES_VALUE: u64 = 0x05F5E10080862201;
+    // configuration: bit 0 enable
+    pub const ENABLE: u32 = 0;
+
+    pub const COUNT: usize = 3;
+
     // every access is so many bytes wide, and its offset a multiple of it
     pub const WIDTH: u64 = 8;
 
@@ -90,7 +94,7 @@ impl Timers {
     fn at(self, m: usize) -> Timer
         ensures { λ r. ⌜ r ≡ at self m ⌝ }
     {
-        if 3 <= m {
+        if Timers::COUNT <= m {
             return Timer::blank();
         }
         let t = self.timer;
@@ -101,7 +105,7 @@ impl Timers {
     fn with(self, m: usize, t: Timer) -> Timers
         ensures { λ r. ⌜ r ≡ withTimer self m t ⌝ }
     {
-        if 3 <= m {
+        if Timers::COUNT <= m {
             return self;
         }
         let mut next = self;
@@ -270,7 +274,7 @@ impl Timers {
         ensures { λ r. ⌜ r ≡ withEnabled self (bit 0 value) ⌝ }
     {
         let mut next = self;
-        next.enabled = timer::bit(value, 0) as u64;
+        next.enabled = timer::bit(value, Timers::ENABLE) as u64;
         next
     }
 

@@ -1,4 +1,4 @@
-use borrow.Author.Tests.{eq-eqb, ne-eqb}
+use borrow.Author.Tests.{ne-eqb}
 use borrow.Author.Needs.{needs}
 use Rattle.timers.proofs.cleared_by.Statement.{statement}
 use Rattle.timers.proofs.cleared_by.Tie as tie

@@ -1,5 +1,4 @@
-use mathlib.Core.Path.{_≡_, sym, _∙_}
-use borrow.Author.Tests.{eq-eqb, ne-eqb}
+use borrow.Author.Tests.{ne-eqb}
 use Rattle.timers.specs.Registers.{timerRegister}
 use borrow.Author.Needs.{needs}
 use Rattle.timers.proofs.timer_register.Statement.{statement}

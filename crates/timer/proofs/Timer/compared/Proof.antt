@@ -1,6 +1,5 @@
 use borrow.Author.Tests.{eq-eqb, ne-eqb}
 use Rattle.timer.proofs.Written.{compared-periodic, compared-once}
-use Rattle.timer.specs.Registers.{comparedOf}
 use borrow.Author.Needs.{needs}
 use Rattle.timer.proofs.Timer.compared.Statement.{statement}
 use Rattle.timer.proofs.Timer.compared.Tie as tie

@@ -1,5 +1,4 @@
 use Prim.Native.Nat.{_^_, _<_}
-use Rattle.timer.specs.declared.Timer.{Timer}
 use native.Mathlib.Omega.{arith}
 use Rattle.timer.proofs.Ran.{stride-code}
 use borrow.Author.Needs.{needs}

@@ -1,4 +1,3 @@
-use Prim.Native.Nat.{ℕ}
 use mathlib.Core.Path.{ap}
 use Rattle.timers.specs.State.{withCounter}
 use Rattle.timers.specs.Tick.{countedOf}

@@ -1,5 +1,4 @@
-use mathlib.Core.Path.{_≡_, ap, _∙_}
-use Rattle.timer.specs.declared.Timer.{Timer}
+use mathlib.Core.Path.{ap, _∙_}
 use Rattle.timer.specs.Tick.{firing}
 use Rattle.timers.specs.State.{withTimer}
 use Rattle.timers.specs.Tick.{firedOf}

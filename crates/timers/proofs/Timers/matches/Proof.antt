@@ -1,4 +1,4 @@
-use mathlib.Core.Path.{_≡_, ap, _∙_}
+use mathlib.Core.Path.{ap, _∙_}
 use Rattle.timer.specs.Tick.{meets}
 use Rattle.timers.specs.Tick.{matchesOf}
 use borrow.Author.Needs.{needs}

@@ -1,7 +1,6 @@
-use mathlib.Core.Path.{_≡_, ap}
+use mathlib.Core.Path.{ap}
 use Rattle.timer.specs.declared.Timer.{Timer}
-use Rattle.timers.specs.declared.Timers.{Timers}
-use Rattle.timers.specs.State.{three, resetTimers}
+use Rattle.timers.specs.State.{withTimers, allZero, resetTimers}
 use borrow.Author.Needs.{needs}
 use Rattle.timers.proofs.Timers.reset.Statement.{statement}
 use Rattle.timers.proofs.Timers.reset.Tie as tie
@@ -16,7 +15,7 @@ reset-requires c κs = search needs
 -- src/lib.rt:65:5
 returns : tie.Need-returns
 unfolding resetTimers
-returns c = ap (λ (t : Timer). record { counter = 0; enabled = 0; timer = three (λ i. t) }) (c .reset .ensures)
+returns c = ap (λ (t : Timer). withTimers allZero (λ i. t)) (c .reset .ensures)
 
 pub reset-spec : {M : Type 1} → statement M
 reset-spec = tie.close (tie.spec reset-requires returns)

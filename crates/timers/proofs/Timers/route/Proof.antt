@@ -1,4 +1,4 @@
-use mathlib.Core.Path.{_≡_, ap}
+use mathlib.Core.Path.{ap}
 use Rattle.timer.specs.declared.Timer.{Timer}
 use Rattle.timers.specs.Tick.{routeOf}
 use borrow.Author.Needs.{needs}

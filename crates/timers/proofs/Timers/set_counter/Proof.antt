@@ -1,4 +1,4 @@
-use borrow.Author.Tests.{eq-eqb, ne-eqb}
+use borrow.Author.Tests.{ne-eqb}
 use Rattle.timers.proofs.Timers.set_counter.Statement.{statement}
 use Rattle.timers.proofs.Timers.set_counter.Tie as tie
 use Rattle.timers.proofs.Timers.set_counter.Reads as reads

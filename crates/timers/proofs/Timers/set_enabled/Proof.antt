@@ -1,4 +1,4 @@
-use mathlib.Core.Path.{_≡_, ap}
+use mathlib.Core.Path.{ap}
 use Rattle.timers.specs.State.{withEnabled}
 use borrow.Author.Needs.{needs}
 use Rattle.timers.proofs.Timers.set_enabled.Statement.{statement}

@@ -1,7 +1,6 @@
-use mathlib.Core.Path.{_≡_, sym, ap, _∙_}
+use mathlib.Core.Path.{sym, ap, _∙_}
 use borrow.Author.Tests.{not-true, not-false}
 use Rattle.answers.specs.declared.Answer.the-variants as answer
-use Prim.Native.Nat.{ℕ}
 use Rattle.timers.specs.declared.Timers.{Timers}
 use Rattle.timers.specs.Call.{turn}
 use Rattle.timers.proofs.Access.{writing-width, writing-offset, writing-done}

@@ -1,4 +1,4 @@
-use mathlib.Core.Path.{_≡_, sym, ap, _∙_}
+use mathlib.Core.Path.{sym, ap, _∙_}
 use Rattle.timer.specs.declared.Timer.{Timer}
 use Rattle.timers.specs.State.{withTimer}
 use Rattle.timers.specs.Registers.{numbered, timerWritten}
