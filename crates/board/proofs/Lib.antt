@@ -5,3 +5,4 @@ pub mod Turns
 pub mod Ticks
 pub mod Jumps
 pub mod Keeps
+pub mod Demands

@@ -146,6 +146,10 @@ refused-not-nothing q = absurd (subst five (ap answerNumber q) tt)
     five n = T (eqb n 5)
 
 module _ (c : Controller) where
+  pub deliver-served : wellFormed c ≡ true → deliverOf c ≡ deliveringOf c
+  unfolding deliverOf
+  deliver-served w = rw w
+
   abbrev e : Entries
   e = c .entries
 

@@ -32,3 +32,4 @@ pub mod Runs
 pub mod Numbers
 pub mod Sheet
 pub mod Demands
+pub mod Decided
