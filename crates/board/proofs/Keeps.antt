@@ -27,7 +27,7 @@ stepped-formed b (call.Write w d o v) e = written (ltb v 4294967296) (ltb v 4294
 stepped-formed b (call.Wire p l) e = either (ltb p 24) _ _ e e
 stepped-formed b (call.End v) e = e
 stepped-formed b (call.Advance t) e = e
-stepped-formed b call.Deliver e = either (eqb (b .count) 0) _ _ e refl
+stepped-formed b call.Deliver e = either (eqb (b .timers .counter) 0) _ _ e refl
 
 pub step-formed : (b : Board) (c : Call) → formed b ≡ true → formed (turnOf b c .board) ≡ true
 unfolding turnOf

@@ -30,8 +30,44 @@ pub enum Call {
 }
 
 #[repr(C)]
+pub struct Timer {
+    pub comparator: u64,
+    pub period: u64,
+    pub route: u16,
+    pub level_type: u8,
+    pub interrupt: u8,
+    pub periodic: u8,
+    pub set_comparator: u8,
+    pub narrow: u8,
+    pub status: u8,
+}
+
+#[repr(C)]
+pub struct Timers {
+    pub counter: u64,
+    pub enabled: u64,
+    pub timer: [Timer; 3],
+}
+
+#[repr(C)]
+pub struct Entries {
+    pub low: [u32; 24],
+    pub destination: [u8; 24],
+    pub level: [u8; 24],
+    pub held: [u8; 24],
+}
+
+#[repr(C)]
+pub struct Controller {
+    pub id: u8,
+    pub index: u8,
+    pub entries: Entries,
+}
+
+#[repr(C)]
 pub struct Board {
-    pub count: u64,
+    pub timers: Timers,
+    pub controller: Controller,
     pub outside: [u8; 24],
 }
 
@@ -44,8 +80,36 @@ impl Board {
     pub fn reset() -> Board
         ensures { λ r. ⌜ r ≡ resetBoard ⌝ }
     {
+        let timer = Timer {
+            comparator: 0,
+            period: 0,
+            route: 0,
+            level_type: 0,
+            interrupt: 0,
+            periodic: 0,
+            set_comparator: 0,
+            narrow: 0,
+            status: 0,
+        };
+        let timers = Timers {
+            counter: 0,
+            enabled: 0,
+            timer: [timer; 3],
+        };
+        let entries = Entries {
+            low: [0; 24],
+            destination: [0; 24],
+            level: [0; 24],
+            held: [0; 24],
+        };
+        let controller = Controller {
+            id: 0,
+            index: 0,
+            entries,
+        };
         Board {
-            count: 0,
+            timers,
+            controller,
             outside: [0; 24],
         }
     }
@@ -53,7 +117,7 @@ impl Board {
     pub fn well_formed(self) -> bool
         ensures { λ r. ⌜ r ≡ formed self ⌝ }
     {
-        self.count < 4294967296
+        self.timers.counter < 4294967296
     }
 
     fn stepped(self, call: Call) -> Turn
@@ -85,7 +149,7 @@ impl Board {
             } => {
                 if value < 4294967296 {
                     let mut b = self;
-                    b.count = value;
+                    b.timers.counter = value;
                     Turn {
                         board: b,
                         answer: Answer::Done,
@@ -119,14 +183,14 @@ impl Board {
                 answer: Answer::Fired(ticks, 0, 0),
             },
             Call::Deliver => {
-                if self.count == 0 {
+                if self.timers.counter == 0 {
                     Turn {
                         board: self,
                         answer: Answer::Nothing,
                     }
                 } else {
                     let mut b = self;
-                    b.count = 0;
+                    b.timers.counter = 0;
                     Turn {
                         board: b,
                         answer: Answer::Interrupt {

@@ -43,7 +43,7 @@ returns-2 c = rw (c .before .before .call .given .1, le-ltb _ _ (c .if1 .left))
 -- src/lib.rt:59:5
 returns-3 : tie.Need-returns-3
 unfolding stepped
-returns-3 c = rw (c .before .before .call2 .given .1, lt-ltb _ _ (c .if2 .taken))
+returns-3 c = rw (c .before .before .before .call2 .given .1, lt-ltb _ _ (c .before .if2 .taken))
 
 -- src/lib.rt:59:5
 returns-4 : tie.Need-returns-4
@@ -78,7 +78,7 @@ returns-9 c = rw (c .before .before .enum-told2 .given .1, eq-eqb _ _ (c .if4 .t
 -- src/lib.rt:59:5
 returns-10 : tie.Need-returns-10
 unfolding stepped
-returns-10 c = rw (c .before .before .enum-told2 .given .1, ne-eqb _ _ (c .if4 .left))
+returns-10 c = rw (c .before .before .before .enum-told2 .given .1, ne-eqb _ _ (c .before .if4 .left))
 
 pub stepped-spec : {M : Type 1} → statement M
 stepped-spec =
