@@ -11,31 +11,24 @@ use Rattle.io.proofs.write_all.Reads as write-all-reads
 use Rattle.replay.proofs.output.Reads as output-reads
 use Rattle.replay.proofs.room.Reads as room-reads
 
--- src/main.rt:34:19
 room-requires : tie.Need-room-requires
 room-requires c κs = search needs
 
--- src/main.rt:35:25
 slice-aggregate-output : tie.Need-slice-aggregate-output
 slice-aggregate-output c = search needs
 
--- src/main.rt:35:9
 output-requires : tie.Need-output-requires
 output-requires c κs = search needs
 
--- src/main.rt:36:40
 array-share-prefix-out : tie.Need-array-share-prefix-out
 array-share-prefix-out c = within (outputOf (c .before .before .before .before .before .args .log .now)) (c .before .before .before .room .result) (c .before .output .last .1 .0) (c .before .output .result) (c .before .output .ensures .0) (c .before .output .ensures .1)
 
--- src/main.rt:36:40
 slice-aggregate-write-all : tie.Need-slice-aggregate-write-all
 slice-aggregate-write-all c = sym (length-take-le (c .before .before .output .result) (c .before .before .output .last .1 .0) (within (outputOf (c .before .before .before .before .before .before .args .log .now)) (c .before .before .before .before .room .result) (c .before .before .output .last .1 .0) (c .before .before .output .result) (c .before .before .output .ensures .0) (c .before .before .output .ensures .1)))
 
--- src/main.rt:36:5
 write-all-requires : tie.Need-write-all-requires
 write-all-requires c κs = search needs
 
--- src/main.rt:33:1
 returns : tie.Need-returns
 returns c = search needs
 
