@@ -25,6 +25,7 @@ use Rattle.board.specs.declared.Turn.{Turn}
 use Rattle.board.specs.State.{board, resetBoard, withController, turn, refused}
 use Rattle.board.specs.Wires.{joined}
 use Rattle.board.specs.Formed.{wellFormed}
+use Rattle.board.specs.Sheet.{reset-formed as computed}
 use Rattle.board.specs.Step.{byController, byTimers, readingOf, writingOf, wiringOf, endingOf, advancingOf, deliveringOnBoard, servedOf, turnOf}
 use Rattle.board.proofs.Formed.{Sized, Formed, formed-in, formed-out, joined-formed}
 use Rattle.board.proofs.Ticks.{ticks-formed}
@@ -99,3 +100,9 @@ step-sized b c s e = keeps b (formed-in b e s) c .sized
 -- reset
 pub reset-sized : Sized resetBoard
 reset-sized = record { low = refl; destination = refl; level = refl; held = refl }
+
+pub reset-formed : wellFormed resetBoard ≡ true
+reset-formed = computed
+
+pub reset : Formed resetBoard
+reset = formed-in resetBoard reset-formed reset-sized
