@@ -129,5 +129,9 @@ silent "a directory" "$work: Is a directory" "$work"
 silent "an empty name" "No such file" ""
 silent "two arguments" "usage: replay" worked.log torn.log
 
+"$program" --help </dev/null >"$work/out" 2>"$work/err"
+grep -q "usage: replay" "$work/out" && ! [ -s "$work/err" ]
+verdict "--help" $?
+
 echo "$passed passed, $failed failed"
 [ "$failed" -eq 0 ] && [ "$passed" -gt 0 ]
