@@ -57,6 +57,11 @@ for log in *.log; do
     same "${log%.log}" "$log" "${log%.log}.expected"
 done
 
+if command -v python3 >/dev/null; then
+    python3 make.py --check
+    verdict "the examples are made from their .txt" $?
+fi
+
 # ---- one or two bytes left are 8, then mark 6, kind 7, body 8
 
 says "the empty log" '' 'end 0\n'
