@@ -57,6 +57,11 @@ for log in *.log; do
     same "${log%.log}" "$log" "${log%.log}.expected"
 done
 
+if command -v python3 >/dev/null; then
+    python3 make.py --check
+    verdict "the examples are made from their .txt" $?
+fi
+
 # ---- one or two bytes left are 8, then mark 6, kind 7, body 8
 
 says "the empty log" '' 'end 0\n'
@@ -128,6 +133,10 @@ silent "a file that isn't there" "$work/nothing: No such file" "$work/nothing"
 silent "a directory" "$work: Is a directory" "$work"
 silent "an empty name" "No such file" ""
 silent "two arguments" "usage: replay" worked.log torn.log
+
+"$program" --help </dev/null >"$work/out" 2>"$work/err"
+grep -q "usage: replay" "$work/out" && ! [ -s "$work/err" ]
+verdict "--help" $?
 
 echo "$passed passed, $failed failed"
 [ "$failed" -eq 0 ] && [ "$passed" -gt 0 ]

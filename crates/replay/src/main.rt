@@ -57,6 +57,22 @@ fn run(fd: i32, name: &[u8]) {
     answer(&log[..n]);
 }
 
+fn usage(fd: i32) {
+    io::write_all(fd, b"usage: replay [FILE]\n");
+    io::write_all(
+        fd,
+        b"Replays an event log, the file or standard input, on a board from reset.\n",
+    );
+}
+
+fn is_help(s: &[u8]) -> bool {
+    if s.len() != 6 {
+        return false;
+    }
+    let dashes = (s[0] == b'-') & (s[1] == b'-');
+    dashes & (s[2] == b'h') & (s[3] == b'e') & (s[4] == b'l') & (s[5] == b'p')
+}
+
 fn run_file(path: &[u8]) {
     let fd = os::open_read(path);
     if fd < 0 {
@@ -74,13 +90,17 @@ fn main() {
         return;
     }
     if 2 < count {
-        io::write_all(libc::STDERR_FILENO, b"usage: replay [FILE]\n");
+        usage(libc::STDERR_FILENO);
         return;
     }
     let mut path = io::buffer();
     let length = os::arg(1, &mut path);
     if os::errno() != 0 {
         os::fail(b"the file's name");
+        return;
+    }
+    if is_help(&path[..length]) {
+        usage(libc::STDOUT_FILENO);
         return;
     }
     run_file(&path[..length]);
