@@ -1,0 +1,85 @@
+//! Torn logs: cut, damaged, overlong or never a log at all.
+
+use super::{sound_log, Profile};
+use crate::log::{Reader, Record, LONGEST, MARK};
+use crate::random::Random;
+
+pub(super) fn log(random: &mut Random) -> Vec<u8> {
+    let profile = random.choose(&Profile::ALL[..4]);
+    match random.below(100) {
+        0 => Vec::new(),
+        1..5 => overlong(random),
+        5..9 => random_bytes(random),
+        _ => {
+            let mut log = sound_log(profile, random);
+            for _ in 0..1 + random.below(10) / 8 {
+                damage(&mut log, random);
+            }
+            log
+        }
+    }
+}
+
+/// Logs around the greatest length.
+fn overlong(random: &mut Random) -> Vec<u8> {
+    let mut log = Vec::new();
+    while log.len() < LONGEST + 100 {
+        Record::Deliver.append_to(&mut log);
+    }
+    let length =
+        random.choose(&[LONGEST - 1, LONGEST, LONGEST, LONGEST + 1, LONGEST + 2, log.len()]);
+    log.truncate(length);
+    log
+}
+
+fn random_bytes(random: &mut Random) -> Vec<u8> {
+    let mut log: Vec<u8> = (0..random.below(12)).map(|_| random.next() as u8).collect();
+    if random.percent(60) {
+        log.splice(0..0, MARK);
+    }
+    log
+}
+
+fn damage(log: &mut Vec<u8>, random: &mut Random) {
+    let starts = record_starts(log);
+    let record = random.choose(&starts);
+    let place = random.below(log.len() as u64 + 1) as usize;
+    match random.below(7) {
+        0 => log.truncate(place),
+        1 => log.truncate(record + 1 + random.below(2) as usize),
+        2 => {
+            if let Some(byte) = log.get_mut(place) {
+                *byte ^= 1 << random.below(8);
+            }
+        }
+        3 => replace(log, record + random.below(2) as usize, random.next() as u8),
+        4 => {
+            let kind = random.choose(&[0, 7, 8, 9, 0x40, 0x86, 0xFF]);
+            replace(log, record + 2, kind);
+        }
+        5 => {
+            let stray =
+                random.choose(&[&[0x7E][..], &[0x7E, 0xB5], &[0x00], &[0xB5, 0x7E], &[0, 6]]);
+            log.extend(stray);
+        }
+        _ => {
+            log.insert(place, random.next() as u8);
+        }
+    }
+}
+
+fn replace(log: &mut [u8], place: usize, byte: u8) {
+    if let Some(old) = log.get_mut(place) {
+        *old = byte;
+    }
+}
+
+/// Where records start, the log's end included.
+fn record_starts(log: &[u8]) -> Vec<usize> {
+    let mut reader = Reader::new(log);
+    let mut starts = vec![0];
+    while let Some(Ok(_)) = reader.take() {
+        starts.push(reader.place());
+    }
+    starts
+}
