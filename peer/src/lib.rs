@@ -12,8 +12,12 @@
 
 pub mod board;
 pub mod controller;
+pub mod events;
+pub mod fuzz;
 pub mod generate;
 pub mod log;
+pub mod mutants;
 pub mod pin;
 pub mod random;
+pub mod shrink;
 pub mod timer;

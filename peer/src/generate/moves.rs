@@ -96,7 +96,7 @@ impl Maker {
         let present = u8::from(self.board.outside[usize::from(pin)]);
         let level = if self.random.percent(85) { 1 - present } else { present };
         self.push(Record::Wire { pin, level });
-        if self.random.percent(25) {
+        if self.random.percent(40) {
             self.push(Record::Wire { pin, level: 1 - level });
         }
     }
@@ -143,7 +143,8 @@ impl Maker {
         match self.random.below(100) {
             0..34 => self.pass_time(),
             34..48 => self.reconfigure(n),
-            48..62 => self.rewrite_comparator(n),
+            48..58 => self.rewrite_comparator(n),
+            58..62 => self.calm(),
             62..70 => {
                 let on = self.board.timers.enabled;
                 let value = self.random.next() & !1 | u64::from(!on);

@@ -22,6 +22,9 @@ impl Maker {
     /// Timers that fire soon, often at the same tick and on the same pin, then look closely.
     pub(super) fn set_timer_scene(&mut self) {
         self.write_timers(ENABLE, 0);
+        if self.random.percent(70) {
+            self.calm();
+        }
         let counter = landmark(&mut self.random);
         self.write_timers(COUNTER, counter);
         let shared_pin = self.pin();
@@ -48,6 +51,16 @@ impl Maker {
         self.write_timers(ENABLE, 1);
         self.pass_time();
         self.look();
+    }
+
+    /// Takes down what would hide a pulse or a rise.
+    pub(super) fn calm(&mut self) {
+        self.write_timers(STATUS, 7);
+        for pin in self.pins.clone() {
+            if self.board.outside[usize::from(pin)] {
+                self.push(Record::Wire { pin, level: 0 });
+            }
+        }
     }
 
     pub(super) fn look(&mut self) {
