@@ -22,8 +22,8 @@ pub const GATE_LOGS: u64 = 2_500;
 pub const LONG_LOGS: u64 = 200_000;
 /// From so many logs of a profile on, it has to reach every event it is meant to reach.
 const ENOUGH_LOGS: u64 = 400;
-/// How often the other program is run to shrink a difference.
-const SHRINK_TRIALS: usize = 4_000;
+/// The effort to shrink a difference.
+const SHRINK_EFFORT: usize = 8_000_000;
 /// A replay that takes longer is taken for one that doesn't end.
 const PATIENCE: Duration = Duration::from_secs(60);
 
@@ -115,7 +115,7 @@ impl<'options> Session<'options> {
     fn show_difference(&self, log: &[u8], way: Way) -> Result<(), String> {
         let differs =
             |log: &[u8]| self.other.replay(log, way).is_ok_and(|output| output != own_replay(log));
-        let short = shrink(log, SHRINK_TRIALS, differs);
+        let short = shrink(log, SHRINK_EFFORT, differs);
         println!("shrunk to {} records, {} bytes:", records_of(&short).0.len(), short.len());
         println!("{}", hex(&short));
         println!("--- peer");

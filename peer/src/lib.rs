@@ -8,7 +8,7 @@
 //! - [`log`]: event logs, read and replayed.
 //! - [`generate`], [`events`], [`shrink`], [`fuzz`]: random logs, what happens in them, and the
 //!   comparison with another program.
-//! - [`mistakes`], [`mutants`]: wrong models that the comparison has to find.
+//! - [`wrong`], [`mutants`]: wrong models that the comparison has to find.
 
 pub mod board;
 pub mod controller;
@@ -21,3 +21,4 @@ pub mod pin;
 pub mod random;
 pub mod shrink;
 pub mod timer;
+pub mod wrong;

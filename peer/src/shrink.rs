@@ -2,12 +2,15 @@
 
 use crate::log::{records_of, Record};
 
-/// Shrinks a log as long as `differs` says that the difference is still there, with at most so
-/// many trials.
-pub fn shrink(log: &[u8], trials: usize, differs: impl FnMut(&[u8]) -> bool) -> Vec<u8> {
+/// What a trial costs beside the bytes of its log.
+const TRIAL: usize = 500;
+
+/// Shrinks a log as long as `differs` says that the difference is still there. The effort is
+/// the number of bytes that may be tried.
+pub fn shrink(log: &[u8], effort: usize, differs: impl FnMut(&[u8]) -> bool) -> Vec<u8> {
     let (records, stop) = records_of(log);
     let tail = stop.map_or(Vec::new(), |(_, place)| log[place..].to_vec());
-    let mut shrinker = Shrinker { records, tail, trials, differs };
+    let mut shrinker = Shrinker { records, tail, effort, differs };
     if shrinker.is_still_different(&shrinker.records.clone(), &shrinker.tail.clone()) {
         shrinker.drop_tail();
         shrinker.drop_records();
@@ -23,17 +26,16 @@ struct Shrinker<Differs> {
     records: Vec<Record>,
     /// Bytes that are no record.
     tail: Vec<u8>,
-    trials: usize,
+    effort: usize,
     differs: Differs,
 }
 
 impl<Differs: FnMut(&[u8]) -> bool> Shrinker<Differs> {
     fn is_still_different(&mut self, records: &[Record], tail: &[u8]) -> bool {
-        if self.trials == 0 {
-            return false;
-        }
-        self.trials -= 1;
-        (self.differs)(&join(records, tail))
+        let log = join(records, tail);
+        let Some(left) = self.effort.checked_sub(log.len() + TRIAL) else { return false };
+        self.effort = left;
+        (self.differs)(&log)
     }
 
     fn drop_tail(&mut self) {

@@ -15,8 +15,10 @@ impl Maker {
             Profile::Valid => match roll {
                 0..40 => self.controller_move(),
                 40..80 => self.timer_move(),
-                80..84 => self.set_scene(Profile::Timers),
-                84..94 => self.look(),
+                80..83 => self.set_scene(Profile::Timers),
+                83..86 => self.set_level_scene(),
+                86..87 => self.set_width_scene(),
+                87..94 => self.look(),
                 _ => self.sweep_some(),
             },
             Profile::Controller => match roll {
@@ -29,8 +31,10 @@ impl Maker {
             Profile::Timers => match roll {
                 0..65 => self.timer_move(),
                 65..75 => self.controller_move(),
-                75..81 => self.set_scene(Profile::Timers),
-                81..97 => self.look(),
+                75..80 => self.set_scene(Profile::Timers),
+                80..84 => self.set_level_scene(),
+                84..86 => self.set_width_scene(),
+                86..97 => self.look(),
                 _ => self.sweep_some(),
             },
             Profile::Adversarial | Profile::Torn => match roll {
@@ -38,6 +42,8 @@ impl Maker {
                 50..70 => self.controller_move(),
                 70..90 => self.timer_move(),
                 90..92 => self.set_scene(Profile::Timers),
+                92..94 => self.set_level_scene(),
+                94..95 => self.set_width_scene(),
                 _ => self.look(),
             },
         }

@@ -5,7 +5,7 @@ use super::choices::{configuration, landmark, low_word, near, period};
 use super::maker::Maker;
 use super::Profile;
 use crate::log::Record;
-use crate::pin::MASK;
+use crate::pin::{LEVEL, MASK};
 use crate::timer::{bits, comparator_of, configuration_of, COUNTER, ENABLE, STATUS, TIMERS};
 
 impl Maker {
@@ -39,7 +39,7 @@ impl Maker {
             let kind = if periodic { bits::PERIODIC | bits::SET_COMPARATOR } else { 0 };
             self.write_timers(configuration_of(n), base & !bits::PERIODIC | kind);
             self.write_timers(comparator_of(n), due);
-            if periodic {
+            if periodic && self.random.percent(75) {
                 let period = period(&mut self.random);
                 self.write_timers(comparator_of(n), period);
             }
@@ -51,6 +51,77 @@ impl Maker {
         self.write_timers(ENABLE, 1);
         self.pass_time();
         self.look();
+    }
+
+    /// A level timer has fired on an edge pin; then writes that may move its wire, one by one.
+    pub(super) fn set_level_scene(&mut self) {
+        let n = self.timer();
+        let pin = self.pin();
+        self.write_timers(ENABLE, 0);
+        self.calm();
+        let word = low_word(&mut self.random, self.vectors[0]) & !(MASK | LEVEL | 0x700);
+        self.write_index(0x10 + 2 * u64::from(pin), u64::from(word));
+        let interrupt = if self.random.percent(50) { bits::INTERRUPT } else { 0 };
+        let level = bits::LEVEL_TYPE | u64::from(pin) << bits::ROUTE_SHIFT;
+        self.write_timers(configuration_of(n), level | interrupt);
+        let due = self.board.timers.counter.wrapping_add(1 + self.random.below(3));
+        self.write_timers(comparator_of(n), due);
+        self.write_timers(ENABLE, 1);
+        self.push(Record::Advance { ticks: 4 });
+        for _ in 0..2 + self.random.below(4) {
+            self.move_wire(n);
+            self.deliver(1);
+        }
+    }
+
+    /// A write that may move the wire of timer n.
+    fn move_wire(&mut self, n: usize) {
+        let present = self.board.timers.timer[n].read_configuration();
+        let route = bits::ROUTE_MASK << bits::ROUTE_SHIFT;
+        match self.random.below(8) {
+            0..3 => self.write_timers(configuration_of(n), present ^ bits::INTERRUPT),
+            3 => self.write_timers(configuration_of(n), present),
+            4 => {
+                let pin = u64::from(self.pin());
+                let moved = present & !route | pin << bits::ROUTE_SHIFT;
+                self.write_timers(configuration_of(n), moved);
+            }
+            5 => self.write_timers(STATUS, 1 << n),
+            6 => {
+                let value = present & !(bits::LEVEL_TYPE & self.random.next()) | route;
+                self.write_timers(configuration_of(n), value);
+            }
+            _ => {
+                let on = u64::from(!self.board.timers.enabled);
+                self.write_timers(ENABLE, on);
+            }
+        }
+    }
+
+    /// A timer with big numbers enters 32-bit mode and leaves it again.
+    pub(super) fn set_width_scene(&mut self) {
+        let n = self.timer();
+        let soon = 2 + self.random.below(4);
+        let kind = bits::PERIODIC | bits::SET_COMPARATOR;
+        self.write_timers(ENABLE, 0);
+        let counter = self.random.below(1 << 33);
+        self.write_timers(COUNTER, counter);
+        self.write_timers(configuration_of(n), kind);
+        self.write_timers(comparator_of(n), counter + soon);
+        if self.random.percent(70) {
+            let period = (1 << 32) * self.random.below(3) + self.random.below(5);
+            self.write_timers(comparator_of(n), period);
+        }
+        for width in [bits::NARROW, 0] {
+            let periodic = if self.random.percent(70) { bits::PERIODIC } else { 0 };
+            self.write_timers(configuration_of(n), width | periodic);
+            self.read_timers(comparator_of(n));
+        }
+        self.write_timers(configuration_of(n), bits::PERIODIC);
+        self.write_timers(ENABLE, 1);
+        let ticks = soon as u32 + self.random.below(4) as u32;
+        self.push(Record::Advance { ticks });
+        self.read_timers(comparator_of(n));
     }
 
     /// Takes down what would hide a pulse or a rise.

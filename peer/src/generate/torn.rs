@@ -44,7 +44,7 @@ fn damage(log: &mut Vec<u8>, random: &mut Random) {
     let starts = record_starts(log);
     let record = random.choose(&starts);
     let place = random.below(log.len() as u64 + 1) as usize;
-    match random.below(7) {
+    match random.below(8) {
         0 => log.truncate(place),
         1 => log.truncate(record + 1 + random.below(2) as usize),
         2 => {
@@ -58,6 +58,11 @@ fn damage(log: &mut Vec<u8>, random: &mut Random) {
             replace(log, record + 2, kind);
         }
         5 => {
+            log.truncate(record);
+            log.extend(MARK);
+            log.push(random.choose(&[0, 7, 0x7E, 1, 5]));
+        }
+        6 => {
             let stray =
                 random.choose(&[&[0x7E][..], &[0x7E, 0xB5], &[0x00], &[0xB5, 0x7E], &[0, 6]]);
             log.extend(stray);
