@@ -8,8 +8,10 @@
 //! - [`log`]: event logs, read and replayed.
 //! - [`generate`], [`events`], [`shrink`], [`fuzz`]: random logs, what happens in them, and the
 //!   comparison with another program.
+//! - [`abi`]: the lent entry's memory layout and its answers.
 //! - [`wrong`], [`mutants`]: wrong models that the comparison has to find.
 
+pub mod abi;
 pub mod board;
 pub mod controller;
 pub mod events;
