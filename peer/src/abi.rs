@@ -5,6 +5,7 @@
 
 use crate::board::{self, Calls, Refusal};
 use crate::controller::{self, Delivery};
+use crate::log::Record;
 use crate::pin::{Pin, PINS};
 use crate::timer::{self, TIMERS};
 
@@ -157,6 +158,26 @@ impl Call {
             Call::Deliver => reply.set_delivery(model.deliver()?),
         }
         Ok(reply)
+    }
+}
+
+impl From<Record> for Call {
+    fn from(record: Record) -> Call {
+        match record {
+            Record::Read { window, width, offset } => {
+                Call::Read { window: window.into(), width: width.into(), offset: offset.into() }
+            }
+            Record::Write { window, width, offset, value } => Call::Write {
+                window: window.into(),
+                width: width.into(),
+                offset: offset.into(),
+                value,
+            },
+            Record::Wire { pin, level } => Call::Wire { pin: pin.into(), level: level.into() },
+            Record::End { vector } => Call::End { vector },
+            Record::Advance { ticks } => Call::Advance { ticks },
+            Record::Deliver => Call::Deliver,
+        }
     }
 }
 

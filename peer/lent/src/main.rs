@@ -8,7 +8,7 @@ use std::process::ExitCode;
 use peer::abi::{Board, Call, Reply};
 use peer::board;
 use peer::generate::{self, random_board, Profile};
-use peer::log::{records_of, Record};
+use peer::log::records_of;
 use peer::random::Random;
 
 const HELP: &str = "\
@@ -144,7 +144,7 @@ impl Check {
         let mut board =
             self.compare(Kind::FromReset, &Board::from(&board::Board::RESET), Call::Reset);
         for record in records.into_iter().take(2_000) {
-            board = self.compare(Kind::FromReset, &board, call_of(record));
+            board = self.compare(Kind::FromReset, &board, record.into());
             if self.random.percent(3) {
                 let call = self.wide_call();
                 board = self.compare(Kind::Wide, &board, call);
@@ -264,21 +264,6 @@ impl Check {
         } else {
             ExitCode::FAILURE
         }
-    }
-}
-
-fn call_of(record: Record) -> Call {
-    match record {
-        Record::Read { window, width, offset } => {
-            Call::Read { window: window.into(), width: width.into(), offset: offset.into() }
-        }
-        Record::Write { window, width, offset, value } => {
-            Call::Write { window: window.into(), width: width.into(), offset: offset.into(), value }
-        }
-        Record::Wire { pin, level } => Call::Wire { pin: pin.into(), level: level.into() },
-        Record::End { vector } => Call::End { vector },
-        Record::Advance { ticks } => Call::Advance { ticks },
-        Record::Deliver => Call::Deliver,
     }
 }
 
