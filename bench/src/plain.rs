@@ -10,7 +10,8 @@ use peer::controller::Delivery;
 use peer::pin::{
     ACTIVE_LOW, DELIVERY_MODE, DELIVERY_STATUS, LEVEL, LOGICAL, MASK, PINS, REMOTE_IRR, WRITABLE,
 };
-use peer::timer::{bits, COUNTER, ENABLE, STATUS, TIMERS, WINDOW_END};
+use peer::timer::bits;
+use peer::timers::{COUNTER, ENABLE, STATUS, TIMERS, WINDOW_END};
 
 const RESET: Board = Board {
     timers: Timers {

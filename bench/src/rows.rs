@@ -4,7 +4,8 @@ use std::hint::black_box;
 
 use peer::abi::{Board, Call};
 use peer::board;
-use peer::timer::{bits, comparator_of, configuration_of, ENABLE, TIMERS};
+use peer::timer::bits;
+use peer::timers::{comparator_of, configuration_of, ENABLE, TIMERS};
 
 use crate::plain;
 

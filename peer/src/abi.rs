@@ -7,7 +7,8 @@ use crate::board::{self, Calls, Refusal};
 use crate::controller::{self, Delivery};
 use crate::log::Record;
 use crate::pin::{Pin, PINS};
-use crate::timer::{self, TIMERS};
+use crate::timer;
+use crate::timers::{self, TIMERS};
 
 /// The redirection entries by columns, with pin levels and held edges.
 #[repr(C)]
@@ -226,7 +227,7 @@ impl Board {
             *timer = lent.model()?;
         }
         Some(board::Board {
-            timers: timer::Timers {
+            timers: timers::Timers {
                 counter: self.timers.counter,
                 enabled: flag(self.timers.enabled)?,
                 timer: timers,

@@ -2,7 +2,7 @@
 
 use crate::controller::{Controller, Delivery};
 use crate::pin::PINS;
-use crate::timer::{Timers, TIMERS, WINDOW_END};
+use crate::timers::{Timers, TIMERS, WINDOW_END};
 
 /// Why a call or a log is refused, by the paper's numbers.
 #[derive(Clone, Copy, PartialEq, Eq, Debug)]

@@ -4,7 +4,7 @@
 //! struct for each pin, wires that settle step by step, and time that jumps from one tick at
 //! which a pin can change to the next. The first program is compared with it.
 //!
-//! - [`pin`], [`controller`], [`timer`], [`board`]: the model.
+//! - [`pin`], [`controller`], [`timer`], [`timers`], [`board`]: the model.
 //! - [`log`]: event logs, read and replayed.
 //! - [`generate`], [`events`], [`shrink`], [`fuzz`]: random logs, what happens in them, and the
 //!   comparison with another program.
@@ -23,4 +23,5 @@ pub mod pin;
 pub mod random;
 pub mod shrink;
 pub mod timer;
+pub mod timers;
 pub mod wrong;

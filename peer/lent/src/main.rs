@@ -1,10 +1,13 @@
 //! `lent-check`: the library's lent entry against the second model, call by call: the reply and
 //! all 288 bytes of the board after every call.
 
-mod ill_formed;
+mod calls;
+mod clauses;
+mod memory;
 
 use std::process::ExitCode;
 
+use clauses::CLAUSES;
 use peer::abi::{Board, Call, Reply};
 use peer::board;
 use peer::generate::{self, random_board, Profile};
@@ -146,7 +149,7 @@ impl Check {
         for record in records.into_iter().take(2_000) {
             board = self.compare(Kind::FromReset, &board, record.into());
             if self.random.percent(3) {
-                let call = self.wide_call();
+                let call = calls::wide(&mut self.random);
                 board = self.compare(Kind::Wide, &board, call);
             }
         }
@@ -155,18 +158,18 @@ impl Check {
     fn play_on_state(&mut self) {
         let mut board = Board::from(&random_board(&mut self.random));
         for _ in 0..6 {
-            let call = self.call();
+            let calls = calls::each(&mut self.random);
+            let call = self.random.choose(&calls);
             board = self.compare(Kind::FromState, &board, call);
         }
     }
 
     /// Every call on every clause's broken state.
     fn play_ill_formed(&mut self) {
-        for break_clause in ill_formed::CLAUSES {
+        for clause in CLAUSES {
             let mut board = Board::from(&random_board(&mut self.random));
-            break_clause(&mut board, &mut self.random);
-            assert!(board.model().is_none_or(|model| !model.is_well_formed()), "a clause holds");
-            for call in self.each_call() {
+            clause.break_alone(&mut board, &mut self.random);
+            for call in calls::each(&mut self.random) {
                 self.compare(Kind::IllFormed, &board, call);
             }
             self.compare(Kind::IllFormed, &board, Call::Reset);
@@ -178,9 +181,9 @@ impl Check {
         for _ in 0..20 {
             let mut board = Board::from(&random_board(&mut self.random));
             for _ in 0..1 + self.random.below(2) {
-                ill_formed::flip_bit(&mut board, &mut self.random);
+                memory::flip_bit(&mut board, &mut self.random);
             }
-            for call in self.each_call() {
+            for call in calls::each(&mut self.random) {
                 self.compare(Kind::Flipped, &board, call);
             }
         }
@@ -188,62 +191,10 @@ impl Check {
 
     fn play_on_memory(&mut self) {
         for _ in 0..5 {
-            let board = ill_formed::random_memory(&mut self.random);
-            for call in self.each_call() {
+            let board = memory::random_memory(&mut self.random);
+            for call in calls::each(&mut self.random) {
                 self.compare(Kind::Memory, &board, call);
             }
-        }
-    }
-
-    /// A random call, mostly one that is done.
-    fn call(&mut self) -> Call {
-        let calls = self.each_call();
-        self.random.choose(&calls)
-    }
-
-    /// One of each call but a reset.
-    fn each_call(&mut self) -> [Call; 8] {
-        let random = &mut self.random;
-        let offset = random
-            .choose(&[0x10, 0x20, 0xF0, 0x100, 0x108, 0x120, 0x128, 0x140, 0x148, 0x000, 0x3F8]);
-        let value = random.next() >> random.below(64);
-        let data = random.choose(&[0x00, 0x10]);
-        let word = u64::from(random.next() as u32 & 0x0001_FFFF);
-        let ticks = match random.below(3) {
-            0 => u32::MAX,
-            1 => random.below(12) as u32,
-            _ => random.next() as u32 >> random.below(32),
-        };
-        [
-            Call::Read { window: 1, width: 8, offset },
-            Call::Read { window: 0, width: 4, offset: data },
-            Call::Write { window: 1, width: 8, offset, value },
-            Call::Write { window: 0, width: 4, offset: data, value: word },
-            Call::Wire { pin: random.below(24), level: random.below(2) },
-            Call::End { vector: 0x30 + random.below(4) as u8 },
-            Call::Advance { ticks },
-            Call::Deliver,
-        ]
-    }
-
-    /// Arguments that a log can't have: a truncated one would be taken for another.
-    fn wide_call(&mut self) -> Call {
-        let random = &mut self.random;
-        let high = random.choose(&[1 << 8, 1 << 16, 1 << 32, 1 << 33, 1 << 63, 0xFFFF_FFFF << 32]);
-        let low = random.choose(&[0, 1, 4, 8, 0x10, 0xF0, 0x100]);
-        let (window, width, offset) = match random.below(3) {
-            0 => (high | random.below(2), 4 + 4 * random.below(2), low),
-            1 => (random.below(2), high | (4 + 4 * random.below(2)), low),
-            _ => {
-                let window = random.below(2);
-                (window, 4 + 4 * window, high | low)
-            }
-        };
-        match random.below(4) {
-            0 => Call::Read { window, width, offset },
-            1 => Call::Write { window, width, offset, value: random.next() },
-            2 => Call::Wire { pin: random.choose(&[4_000_000_000, high, high | 5]), level: 1 },
-            _ => Call::Wire { pin: 5, level: random.choose(&[high, high | 1, 4_000_000_000]) },
         }
     }
 

@@ -6,7 +6,8 @@ use crate::board::Board;
 use crate::controller::{DATA, INDEX};
 use crate::log::Record;
 use crate::random::Random;
-use crate::timer::{bits, TIMERS};
+use crate::timer::bits;
+use crate::timers::TIMERS;
 
 /// Makes one log.
 pub(super) struct Maker {

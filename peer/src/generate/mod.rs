@@ -58,7 +58,7 @@ impl Profile {
 pub fn log(profile: Profile, seed: u64, number: u64) -> Vec<u8> {
     let mut random = Random::new(seed ^ number.wrapping_mul(0xD134_2543_DE82_EF95));
     if profile == Profile::Torn {
-        torn::log(&mut random)
+        torn::log(&mut random, number)
     } else {
         sound_log(profile, &mut random)
     }

@@ -6,7 +6,8 @@ use super::Profile;
 use crate::controller::DATA;
 use crate::log::Record;
 use crate::pin::{Pin, ACTIVE_LOW, LEVEL, MASK};
-use crate::timer::{bits, comparator_of, configuration_of, COUNTER, ENABLE, STATUS};
+use crate::timer::bits;
+use crate::timers::{comparator_of, configuration_of, COUNTER, ENABLE, STATUS};
 
 impl Maker {
     pub(super) fn move_by(&mut self, profile: Profile) {

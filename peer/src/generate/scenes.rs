@@ -6,7 +6,8 @@ use super::maker::Maker;
 use super::Profile;
 use crate::log::Record;
 use crate::pin::{LEVEL, MASK};
-use crate::timer::{bits, comparator_of, configuration_of, COUNTER, ENABLE, STATUS, TIMERS};
+use crate::timer::bits;
+use crate::timers::{comparator_of, configuration_of, COUNTER, ENABLE, STATUS, TIMERS};
 
 impl Maker {
     pub(super) fn set_scene(&mut self, profile: Profile) {

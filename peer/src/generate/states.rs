@@ -5,7 +5,8 @@ use crate::board::Board;
 use crate::controller::Controller;
 use crate::pin::{Pin, PINS, REMOTE_IRR};
 use crate::random::Random;
-use crate::timer::{bits, Timer, Timers, TIMERS};
+use crate::timer::{bits, Timer};
+use crate::timers::{Timers, TIMERS};
 
 /// A random well-formed state.
 pub fn random_board(random: &mut Random) -> Board {

@@ -4,13 +4,19 @@ use super::{sound_log, Profile};
 use crate::log::{Reader, Record, LONGEST, MARK};
 use crate::random::Random;
 
-pub(super) fn log(random: &mut Random) -> Vec<u8> {
-    let profile = random.choose(&Profile::ALL[..4]);
+/// The first logs are those that chance would make too rarely, whatever the seed.
+const FIXED: u64 = 20;
+
+pub(super) fn log(random: &mut Random, number: u64) -> Vec<u8> {
+    if number < FIXED {
+        return deliveries([0, LONGEST, LONGEST + 1, LONGEST - 1][number as usize % 4]);
+    }
     match random.below(100) {
         0 => Vec::new(),
-        1..5 => overlong(random),
+        1..5 => deliveries(LONGEST - 3 + random.below(7) as usize),
         5..9 => random_bytes(random),
         _ => {
+            let profile = random.choose(&Profile::ALL[..4]);
             let mut log = sound_log(profile, random);
             for _ in 0..1 + random.below(10) / 8 {
                 damage(&mut log, random);
@@ -20,14 +26,12 @@ pub(super) fn log(random: &mut Random) -> Vec<u8> {
     }
 }
 
-/// Logs around the greatest length.
-fn overlong(random: &mut Random) -> Vec<u8> {
+/// So many bytes of delivery steps, the last one cut if need be.
+fn deliveries(length: usize) -> Vec<u8> {
     let mut log = Vec::new();
-    while log.len() < LONGEST + 100 {
+    while log.len() < length {
         Record::Deliver.append_to(&mut log);
     }
-    let length =
-        random.choose(&[LONGEST - 1, LONGEST, LONGEST, LONGEST + 1, LONGEST + 2, log.len()]);
     log.truncate(length);
     log
 }

@@ -4,9 +4,8 @@ use super::{Mistake, Wrong};
 use crate::board::{Board, Calls, Refusal, CONTROLLER, TIMER_BLOCK};
 use crate::controller::{Controller, DATA, INDEX};
 use crate::pin::{ACTIVE_LOW, DELIVERY_STATUS, MASK, REMOTE_IRR};
-use crate::timer::{
-    bits, comparator_of, configuration_of, COUNTER, ENABLE, STATUS, TIMERS, WINDOW_END,
-};
+use crate::timer::bits;
+use crate::timers::{comparator_of, configuration_of, COUNTER, ENABLE, STATUS, TIMERS, WINDOW_END};
 
 /// The upper half of a number.
 const UPPER: u64 = 0xFFFF_FFFF_0000_0000;

@@ -14,7 +14,7 @@ pub use mistake::Mistake;
 use crate::board::{Board, Calls, Refusal};
 use crate::controller::Delivery;
 use crate::pin::{Pin, PINS, REMOTE_IRR};
-use crate::timer::TIMERS;
+use crate::timers::TIMERS;
 
 /// A model with a mistake.
 pub struct Wrong {

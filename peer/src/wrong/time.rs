@@ -2,7 +2,7 @@
 
 use super::{Mistake, Wrong};
 use crate::board::{Board, Calls, Refusal};
-use crate::timer::TIMERS;
+use crate::timers::TIMERS;
 
 /// So many ticks of an advance are walked wrongly; the right model does the rest. The mistake
 /// is only rarer for that, and no difference comes from anything else.

@@ -3,7 +3,7 @@
 
 use peer::board::{Board, Calls, CONTROLLER, TIMER_BLOCK};
 use peer::controller::{DATA, INDEX};
-use peer::timer::{comparator_of, configuration_of, COUNTER, ENABLE, STATUS};
+use peer::timers::{comparator_of, configuration_of, COUNTER, ENABLE, STATUS};
 
 pub struct Desk(pub Board);
 
