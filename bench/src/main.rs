@@ -3,6 +3,7 @@
 //! One run, best of several rounds, both sides in turn. It checks the limits that the project
 //! has set itself and says which hold.
 
+mod counts;
 mod plain;
 mod rows;
 mod table;
@@ -22,9 +23,11 @@ use table::Table;
 const HELP: &str = "\
 bench
     Times the library's calls and its replay beside plain Rust: one table, then the limits.
+bench counts
+    Counts the instructions of the same calls with valgrind's callgrind: one table.
 bench once SIDE CALL
-    Makes one call of the table 1,000 times, to count its instructions. SIDE is library or
-    plain; CALL is the row's name.
+    Makes one call of the table 1,000 times, for a profiler. SIDE is library or plain; CALL is
+    the row's name.
 bench replay FILE
     Replays a log with the plain calls; the table times the library's program beside it.
 
@@ -42,6 +45,7 @@ fn main() -> ExitCode {
     let words: Vec<&str> = words.iter().map(String::as_str).collect();
     let result = match words.as_slice() {
         [] => measure(),
+        ["counts"] => counts::print().map(|()| true),
         ["once", side @ ("library" | "plain"), name] => once(*side == "library", name),
         ["replay", file] => replay_plainly(file),
         _ => {

@@ -41,7 +41,7 @@ impl Register {
             0x01 => Register::Version,
             0x02 => Register::Arbitration,
             _ if entry >= PINS => Register::Unlisted,
-            _ if index % 2 == 0 => Register::Low(entry),
+            _ if index.is_multiple_of(2) => Register::Low(entry),
             _ => Register::High(entry),
         }
     }

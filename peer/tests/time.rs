@@ -37,7 +37,7 @@ fn a_cut_advance_is_the_whole_advance() {
     let mut random = Random::new(2);
     for _ in 0..20_000 {
         let start = random_board(&mut random);
-        let total = if random.percent(50) { u32::MAX } else { random.next() as u32 };
+        let total = if random.percent(50) { u32::MAX } else { random.any() as u32 };
         let first = random.below(u64::from(total) + 1) as u32;
         let (mut whole, mut cut) = (start, start);
         let counts = whole.advance(total).unwrap();

@@ -7,13 +7,13 @@ use peer::random::Random;
 pub fn each(random: &mut Random) -> [Call; 8] {
     let offset =
         random.choose(&[0x10, 0x20, 0xF0, 0x100, 0x108, 0x120, 0x128, 0x140, 0x148, 0x000, 0x3F8]);
-    let value = random.next() >> random.below(64);
+    let value = random.any() >> random.below(64);
     let data = random.choose(&[0x00, 0x10]);
-    let word = u64::from(random.next() as u32 & 0x0001_FFFF);
+    let word = u64::from(random.any() as u32 & 0x0001_FFFF);
     let ticks = match random.below(3) {
         0 => u32::MAX,
         1 => random.below(12) as u32,
-        _ => random.next() as u32 >> random.below(32),
+        _ => random.any() as u32 >> random.below(32),
     };
     [
         Call::Read { window: 1, width: 8, offset },
@@ -39,7 +39,7 @@ pub fn wide(random: &mut Random) -> Call {
     };
     match random.below(4) {
         0 => Call::Read { window, width, offset },
-        1 => Call::Write { window, width, offset, value: random.next() },
+        1 => Call::Write { window, width, offset, value: random.any() },
         2 => Call::Wire { pin: random.choose(&[4_000_000_000, high, high | 5]), level: bit },
         _ => Call::Wire { pin: 5, level: random.choose(&[high, high | 1, 4_000_000_000]) },
     }

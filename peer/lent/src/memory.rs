@@ -41,19 +41,19 @@ fn flip_timer_bit(timer: &mut Timer, field: u64, bit: u64) {
 
 /// A board of random bytes.
 pub fn random_memory(random: &mut Random) -> Board {
-    let mut bytes = || [(); 24].map(|()| random.next() as u8);
+    let mut bytes = || [(); 24].map(|()| random.any() as u8);
     let (destination, level, held, outside) = (bytes(), bytes(), bytes(), bytes());
     Board {
         timers: Timers {
-            counter: random.next(),
-            enabled: random.next(),
+            counter: random.any(),
+            enabled: random.any(),
             timer: [(); 3].map(|()| random_timer(random)),
         },
         controller: Controller {
-            id: random.next() as u32,
-            index: random.next() as u32,
+            id: random.any() as u32,
+            index: random.any() as u32,
             entries: Entries {
-                low: [(); 24].map(|()| random.next() as u32),
+                low: [(); 24].map(|()| random.any() as u32),
                 destination,
                 level,
                 held,
@@ -65,11 +65,11 @@ pub fn random_memory(random: &mut Random) -> Board {
 
 fn random_timer(random: &mut Random) -> Timer {
     let [level_type, interrupt, periodic, set_comparator, narrow, status, ..] =
-        random.next().to_le_bytes();
+        random.any().to_le_bytes();
     Timer {
-        comparator: random.next(),
-        period: random.next(),
-        route: random.next() as u16,
+        comparator: random.any(),
+        period: random.any(),
+        route: random.any() as u16,
         level_type,
         interrupt,
         periodic,

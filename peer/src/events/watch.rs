@@ -241,7 +241,7 @@ impl Watcher<'_> {
 /// The pin whose low word the data window shows.
 fn low_word_pin(board: &Board) -> Option<usize> {
     let index = board.controller.index as usize;
-    let low = index >= 0x10 && index % 2 == 0 && index < 0x10 + 2 * PINS;
+    let low = index >= 0x10 && index.is_multiple_of(2) && index < 0x10 + 2 * PINS;
     low.then(|| (index - 0x10) / 2)
 }
 

@@ -18,7 +18,7 @@ pub(super) fn sometimes(random: &mut Random, chance: u64, bit: u64) -> u64 {
 
 pub(super) fn low_word(random: &mut Random, vector: u8) -> u32 {
     if random.percent(4) {
-        return random.next() as u32;
+        return random.any() as u32;
     }
     let mode = sometimes(random, 15, random.clone().below(8) << 8);
     let word = mode
@@ -32,7 +32,7 @@ pub(super) fn low_word(random: &mut Random, vector: u8) -> u32 {
 /// A configuration without its route; some writes have stray bits.
 pub(super) fn configuration(random: &mut Random) -> u64 {
     let stray = !(bits::ROUTE_MASK << bits::ROUTE_SHIFT | 0x14E);
-    sometimes(random, 15, stray & random.clone().next())
+    sometimes(random, 15, stray & random.clone().any())
         | sometimes(random, 45, bits::LEVEL_TYPE)
         | sometimes(random, 75, bits::INTERRUPT)
         | sometimes(random, 50, bits::PERIODIC)
@@ -46,7 +46,7 @@ pub(super) fn landmark(random: &mut Random) -> u64 {
     match random.below(100) {
         0..60 => base.wrapping_sub(random.below(6)),
         60..90 => base.wrapping_add(random.below(20)),
-        _ => random.next() >> random.below(64),
+        _ => random.any() >> random.below(64),
     }
 }
 
@@ -58,7 +58,7 @@ pub(super) fn near(random: &mut Random, counter: u64) -> u64 {
         76..82 => counter.wrapping_sub(random.below(4)),
         82..90 => landmark(random),
         90..95 => counter.wrapping_add(1 << 32).wrapping_add(random.below(3)),
-        _ => random.next() >> random.below(64),
+        _ => random.any() >> random.below(64),
     }
 }
 
@@ -71,6 +71,6 @@ pub(super) fn period(random: &mut Random) -> u64 {
         66..72 => (1 << 31) - 1 + random.below(3),
         72..84 => (1u64 << 32).wrapping_sub(random.below(4)),
         84..92 => 0u64.wrapping_sub(1 + random.below(4)),
-        _ => random.next() >> random.below(64),
+        _ => random.any() >> random.below(64),
     }
 }

@@ -27,7 +27,7 @@ impl Maker {
                 |_| if random.percent(25) { random.choose(&[0, 23]) } else { any_pin(&mut random) },
             )
             .collect();
-        let vectors = (0..3).map(|_| random.next() as u8).collect();
+        let vectors = (0..3).map(|_| random.any() as u8).collect();
         Maker { random, board: Board::RESET, log: Vec::new(), records: 0, pins, vectors }
     }
 
@@ -85,7 +85,7 @@ impl Maker {
         if self.random.percent(90) {
             self.random.choose(&self.vectors)
         } else {
-            self.random.next() as u8
+            self.random.any() as u8
         }
     }
 
@@ -120,7 +120,7 @@ impl Maker {
             76..80 => self.due_in().saturating_add(1),
             80..88 => self.random.below(5_000),
             88..95 => u64::from(u32::MAX),
-            95..98 => self.random.next(),
+            95..98 => self.random.any(),
             _ => 1 << 31,
         };
         if ticks > u64::from(u32::MAX) {

@@ -65,7 +65,7 @@ pub fn log(profile: Profile, seed: u64, number: u64) -> Vec<u8> {
 }
 
 fn sound_log(profile: Profile, random: &mut Random) -> Vec<u8> {
-    let mut maker = Maker::new(random.next());
+    let mut maker = Maker::new(random.any());
     let length = match random.below(100) {
         0..60 => 50 + random.below(350),
         60..95 => 300 + random.below(700),

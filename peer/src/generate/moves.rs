@@ -62,14 +62,14 @@ impl Maker {
             64..78 => self.end(),
             78..86 => self.read_index(0x10 + 2 * pin),
             86..90 => {
-                let value = self.random.next() & 0xFFFF_FFFF;
+                let value = self.random.any() & 0xFFFF_FFFF;
                 self.write_index(0x11 + 2 * pin, value);
             }
             90..93 => self.read_index(0x11 + 2 * pin),
             93..96 => self.id_move(),
             _ => {
                 let index = self.random.below(0x100);
-                let value = self.random.next() & 0xFFFF_FFFF;
+                let value = self.random.any() & 0xFFFF_FFFF;
                 if self.random.percent(50) {
                     self.write_index(index, value);
                 }
@@ -137,7 +137,7 @@ impl Maker {
     }
 
     pub(super) fn id_move(&mut self) {
-        let value = self.random.next() & 0xFFFF_FFFF;
+        let value = self.random.any() & 0xFFFF_FFFF;
         let index = self.random.below(3);
         self.write_index(index, value);
         for index in 0..3 {
@@ -154,12 +154,12 @@ impl Maker {
             58..62 => self.calm(),
             62..70 => {
                 let on = self.board.timers.enabled;
-                let value = self.random.next() & !1 | u64::from(!on);
+                let value = self.random.any() & !1 | u64::from(!on);
                 self.write_timers(ENABLE, value);
             }
             70..78 => {
                 let value =
-                    if self.random.percent(80) { self.random.below(8) } else { self.random.next() };
+                    if self.random.percent(80) { self.random.below(8) } else { self.random.any() };
                 self.read_timers(STATUS);
                 self.write_timers(STATUS, value);
             }
@@ -167,7 +167,7 @@ impl Maker {
             84..87 => {
                 let offset = 8 * self.random.below(0x80);
                 if self.random.percent(50) {
-                    let value = self.random.next();
+                    let value = self.random.any();
                     self.write_timers(offset, value);
                 }
                 self.read_timers(offset);

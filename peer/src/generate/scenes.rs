@@ -89,7 +89,7 @@ impl Maker {
             }
             5 => self.write_timers(STATUS, 1 << n),
             6 => {
-                let value = present & !(bits::LEVEL_TYPE & self.random.next()) | route;
+                let value = present & !(bits::LEVEL_TYPE & self.random.any()) | route;
                 self.write_timers(configuration_of(n), value);
             }
             _ => {
@@ -200,14 +200,14 @@ impl Maker {
         if self.random.percent(80) {
             self.random.choose(&listed)
         } else {
-            self.random.next() as u16
+            self.random.any() as u16
         }
     }
 
     pub(super) fn bad_value(&mut self) -> u64 {
         match self.random.below(4) {
             0 => self.random.choose(&[1 << 32, (1 << 32) - 1, u64::MAX, 1 << 63, (1 << 32) + 0x10]),
-            1 => self.random.next(),
+            1 => self.random.any(),
             2 => u64::from(self.low_word()),
             _ => self.random.below(0x40),
         }

@@ -37,7 +37,7 @@ fn deliveries(length: usize) -> Vec<u8> {
 }
 
 fn random_bytes(random: &mut Random) -> Vec<u8> {
-    let mut log: Vec<u8> = (0..random.below(12)).map(|_| random.next() as u8).collect();
+    let mut log: Vec<u8> = (0..random.below(12)).map(|_| random.any() as u8).collect();
     if random.percent(60) {
         log.splice(0..0, MARK);
     }
@@ -56,7 +56,7 @@ fn damage(log: &mut Vec<u8>, random: &mut Random) {
                 *byte ^= 1 << random.below(8);
             }
         }
-        3 => replace(log, record + random.below(2) as usize, random.next() as u8),
+        3 => replace(log, record + random.below(2) as usize, random.any() as u8),
         4 => {
             let kind = random.choose(&[0, 7, 8, 9, 0x40, 0x86, 0xFF]);
             replace(log, record + 2, kind);
@@ -72,7 +72,7 @@ fn damage(log: &mut Vec<u8>, random: &mut Random) {
             log.extend(stray);
         }
         _ => {
-            log.insert(place, random.next() as u8);
+            log.insert(place, random.any() as u8);
         }
     }
 }

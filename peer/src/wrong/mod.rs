@@ -3,10 +3,11 @@
 //! The right model stays free of hooks. A wrong one lets it answer, and then damages the answer
 //! or the state; where that can't be done, it goes its own way for a while.
 
-mod access;
 mod log;
 mod mistake;
+mod reads;
 mod time;
+mod writes;
 
 pub use log::replay;
 pub use mistake::Mistake;

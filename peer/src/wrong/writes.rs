@@ -1,112 +1,16 @@
-//! Mistakes in register reads and writes.
+//! Mistakes in register writes.
 
 use super::{Mistake, Wrong};
 use crate::board::{Board, Calls, Refusal, CONTROLLER, TIMER_BLOCK};
-use crate::controller::{Controller, DATA, INDEX};
-use crate::pin::{ACTIVE_LOW, DELIVERY_STATUS, MASK, REMOTE_IRR};
+use crate::controller::{DATA, INDEX};
+use crate::pin::{ACTIVE_LOW, MASK, REMOTE_IRR};
 use crate::timer::bits;
-use crate::timers::{comparator_of, configuration_of, COUNTER, ENABLE, STATUS, TIMERS, WINDOW_END};
+use crate::timers::{comparator_of, configuration_of, COUNTER, ENABLE, STATUS, TIMERS};
 
 /// The upper half of a number.
 const UPPER: u64 = 0xFFFF_FFFF_0000_0000;
 
 impl Wrong {
-    pub(super) fn wrong_offset(&self, window: u64, width: u64, offset: u64) -> u64 {
-        let moved =
-            self.has(Mistake::DataWindowAtFour) && (window, width, offset) == (CONTROLLER, 4, 0x04);
-        if moved {
-            DATA
-        } else {
-            offset
-        }
-    }
-
-    /// Refusals in a wrong order, or refusals that shouldn't be.
-    pub(super) fn wrong_refusal(
-        &self,
-        window: u64,
-        width: u64,
-        offset: u64,
-        value: u64,
-    ) -> Result<(), Refusal> {
-        let bad_offset = match window {
-            CONTROLLER => !Controller::has_offset(offset),
-            TIMER_BLOCK => offset >= WINDOW_END,
-            _ => true,
-        };
-        let big = window == CONTROLLER && width == 4 && value > u64::from(u32::MAX);
-        match self.mistake {
-            Mistake::AlwaysRefuses => Err(Refusal::State),
-            Mistake::WidthBeforeWindow if width != 4 && width != 8 => Err(Refusal::Width),
-            Mistake::OffsetBeforeWidth if bad_offset => Err(Refusal::Place),
-            Mistake::ValueBeforeOffset if big => Err(Refusal::Value),
-            _ => Ok(()),
-        }
-    }
-
-    /// An access that should be refused, but is done and does nothing.
-    pub(super) fn ignores(&self, window: u64, width: u64, offset: u64) -> bool {
-        let timers = window == TIMER_BLOCK && width == 8;
-        match self.mistake {
-            Mistake::AlignmentIgnored => timers && offset % 8 != 0 && offset < WINDOW_END,
-            Mistake::WindowEndTaken => timers && offset == WINDOW_END,
-            _ => false,
-        }
-    }
-
-    pub(super) fn wrong_read(&self, window: u64, offset: u64, value: u64) -> u64 {
-        if window == TIMER_BLOCK {
-            return self.wrong_timer_read(offset, value);
-        }
-        let index = self.board.controller.index;
-        if offset != DATA {
-            return value;
-        }
-        match self.mistake {
-            Mistake::ArbitrationZero if index == 2 => 0,
-            _ => match self.low_word_pin() {
-                None => value,
-                Some(number) => self.wrong_low(number, value),
-            },
-        }
-    }
-
-    fn wrong_low(&self, number: usize, value: u64) -> u64 {
-        let mut pin = self.board.controller.pins[number];
-        match self.mistake {
-            Mistake::StatusBitZero => value & !u64::from(DELIVERY_STATUS),
-            Mistake::StatusBitUnmasked => {
-                pin.low &= !MASK;
-                value | u64::from(pin.read_low() & DELIVERY_STATUS)
-            }
-            _ => value,
-        }
-    }
-
-    fn wrong_timer_read(&self, offset: u64, value: u64) -> u64 {
-        let bits_of = |mask: u64| {
-            (0..TIMERS).map(|n| u64::from(self.memory.bits[n]) << n).sum::<u64>() & mask
-        };
-        match self.mistake {
-            Mistake::EdgeTypeKeepsStatus if offset == STATUS => return value | bits_of(7),
-            _ => {}
-        }
-        for n in 0..TIMERS {
-            let timer = &self.board.timers.timer[n];
-            if offset == configuration_of(n) {
-                return match self.mistake {
-                    Mistake::BitSixHidden => value & !bits::SET_COMPARATOR,
-                    Mistake::BitSixKept if self.memory.bits[n] => value | bits::SET_COMPARATOR,
-                    _ => value,
-                };
-            }
-            if offset == comparator_of(n) && self.has(Mistake::PeriodReads) && timer.periodic {
-                return timer.period;
-            }
-        }
-        value
-    }
-
     pub(super) fn wrong_write(
         &mut self,
         window: u64,
@@ -133,11 +37,6 @@ impl Wrong {
             self.damage_data_write(&before, value as u32);
         }
         Ok(())
-    }
-
-    fn low_word_pin(&self) -> Option<usize> {
-        let index = self.board.controller.index as usize;
-        (matches!(index, 0x10..0x40) && index % 2 == 0).then(|| (index - 0x10) / 2)
     }
 
     fn damage_data_write(&mut self, before: &Board, value: u32) {
