@@ -8,10 +8,9 @@ use std::sync::mpsc;
 use std::thread;
 use std::time::{Duration, Instant};
 
-use crate::board::Board;
 use crate::events::{Counts, Event};
 use crate::generate::{self, Profile};
-use crate::log::{records_of, replay};
+use crate::log::{records_of, replay_from_reset};
 use crate::shrink::shrink;
 
 /// The seed that the gate uses.
@@ -41,12 +40,12 @@ pub struct Options {
 
 /// Compares, prints the tables and `N passed, M failed`; answers whether nothing failed.
 pub fn run(options: &Options) -> Result<bool, String> {
-    let mut session = Session::new(options)?;
+    let mut comparison = Comparison::new(options)?;
     let start = Instant::now();
     println!("seed {:#x}, {} logs", options.seed, options.logs);
     let mut passed = 0;
     for number in 0..options.logs {
-        if session.compare(number)? {
+        if comparison.compare(number)? {
             passed += 1;
         } else {
             println!("{passed} passed, 1 failed");
@@ -56,12 +55,12 @@ pub fn run(options: &Options) -> Result<bool, String> {
             println!("{} logs compared", number + 1);
         }
     }
-    session.print_events();
-    let missing = session.missing();
+    comparison.print_events();
+    let missing = comparison.missing();
     for (profile, event) in &missing {
         println!("profile {} never reached: {}", profile.name(), event.text());
     }
-    session.print_totals(start.elapsed());
+    comparison.print_totals(start.elapsed());
     println!("{passed} passed, {} failed", missing.len());
     Ok(missing.is_empty())
 }
@@ -74,13 +73,13 @@ struct Tally {
     counts: Counts,
 }
 
-struct Session<'options> {
+struct Comparison<'options> {
     options: &'options Options,
     other: Other,
     tallies: Vec<Tally>,
 }
 
-impl<'options> Session<'options> {
+impl<'options> Comparison<'options> {
     fn new(options: &'options Options) -> Result<Self, String> {
         let profiles = match options.profile {
             Some(profile) => vec![profile],
@@ -88,7 +87,7 @@ impl<'options> Session<'options> {
         };
         let new = |profile| Tally { profile, logs: 0, records: 0, counts: Counts::new() };
         let tallies = profiles.into_iter().map(new).collect();
-        Ok(Session { options, other: Other::new(&options.program)?, tallies })
+        Ok(Comparison { options, other: Other::new(&options.program)?, tallies })
     }
 
     /// Compares one log; shows a difference if there is one.
@@ -164,7 +163,7 @@ impl<'options> Session<'options> {
 }
 
 fn own_replay(log: &[u8]) -> Vec<u8> {
-    replay(log, &mut Board::RESET.clone()).into_bytes()
+    replay_from_reset(log).into_bytes()
 }
 
 fn hex(bytes: &[u8]) -> String {

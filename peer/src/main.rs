@@ -5,10 +5,9 @@ use std::path::PathBuf;
 use std::process::ExitCode;
 use std::time::SystemTime;
 
-use peer::board::Board;
 use peer::fuzz::{self, FIXED_SEED, GATE_LOGS, LONG_LOGS};
 use peer::generate::Profile;
-use peer::log::replay;
+use peer::log::replay_from_reset;
 use peer::mutants;
 
 const HELP: &str = "\
@@ -62,7 +61,7 @@ fn replay_command(file: Option<&str>) -> Result<bool, String> {
         Some(file) => std::fs::read(file).map_err(|error| format!("can't read {file}: {error}"))?,
         None => read_input().map_err(|error| format!("can't read standard input: {error}"))?,
     };
-    let output = replay(&log, &mut Board::RESET.clone());
+    let output = replay_from_reset(&log);
     std::io::stdout()
         .write_all(output.as_bytes())
         .map_err(|error| format!("can't write the output: {error}"))?;

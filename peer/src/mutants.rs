@@ -1,9 +1,8 @@
 //! Shows that the comparison catches mistakes: each wrong model against the right one, on the
 //! same random logs. A mistake that isn't found is a hole in the generator.
 
-use crate::board::Board;
 use crate::generate::{self, Profile};
-use crate::log::{self, records_of};
+use crate::log::{records_of, replay_from_reset};
 use crate::shrink::shrink;
 use crate::wrong::{self, Mistake};
 
@@ -32,12 +31,8 @@ impl Case {
     fn new(seed: u64, number: u64) -> Case {
         let profile = Profile::ALL[(number % Profile::ALL.len() as u64) as usize];
         let log = generate::log(profile, seed, number);
-        Case { right: right_output(&log), log }
+        Case { right: replay_from_reset(&log), log }
     }
-}
-
-fn right_output(log: &[u8]) -> String {
-    log::replay(log, &mut Board::RESET.clone())
 }
 
 fn look_for(mistake: Mistake, cases: &[Case]) -> bool {
@@ -47,7 +42,7 @@ fn look_for(mistake: Mistake, cases: &[Case]) -> bool {
         println!("{text:<64} NOT FOUND in {} logs", cases.len());
         return false;
     };
-    let differs = |log: &[u8]| wrong::replay(log, mistake) != right_output(log);
+    let differs = |log: &[u8]| wrong::replay(log, mistake) != replay_from_reset(log);
     let short = shrink(&cases[place].log, SHRINK_EFFORT, differs);
     let records = records_of(&short).0.len();
     println!("{text:<64} found after {:>3} logs, {records:>2} records", place + 1);

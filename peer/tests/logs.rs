@@ -4,7 +4,7 @@
 use peer::abi::{self, Call};
 use peer::board::{Board, Calls};
 use peer::generate::{log, random_board, Profile};
-use peer::log::{records_of, replay, Record};
+use peer::log::{records_of, replay_from_reset, Record};
 use peer::random::Random;
 use peer::shrink::shrink;
 use peer::wrong::{self, Mistake};
@@ -61,7 +61,7 @@ fn a_wrong_model_differs_by_its_mistake_alone() {
     // This mistake shows in logs of one length only, so elsewhere all must be right.
     for number in 0..30 {
         let log = log(Profile::ALL[number as usize % 4], 2, number);
-        let right = replay(&log, &mut Board::RESET.clone());
+        let right = replay_from_reset(&log);
         assert_eq!(wrong::replay(&log, Mistake::LimitTooLow), right);
     }
 }

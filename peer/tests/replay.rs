@@ -1,12 +1,7 @@
 //! Replays, byte for byte: the paper's worked example and the ends that a log can have.
 #![allow(missing_docs)]
 
-use peer::board::Board;
-use peer::log::{replay, LONGEST};
-
-fn output(log: &[u8]) -> String {
-    replay(log, &mut Board::RESET.clone())
-}
+use peer::log::{replay_from_reset, LONGEST};
 
 const DELIVER: [u8; 3] = [0x7E, 0xB5, 6];
 
@@ -24,13 +19,13 @@ fn worked_example() {
     .concat();
     let expected = "0 ok\n1 ok\n2 ok\n3 pin 0 vector 32 dest 0 logical 0\n4 none\n5 refused 1\n\
                     6 fired 0 0 0\nend 7\n";
-    assert_eq!(output(&log), expected);
+    assert_eq!(replay_from_reset(&log), expected);
 }
 
 #[test]
 fn a_done_read_prints_sixteen_digits() {
     let log = [0x7E, 0xB5, 1, 1, 8, 0, 0];
-    assert_eq!(output(&log), "0 read 0x05f5e10080862201\nend 1\n");
+    assert_eq!(replay_from_reset(&log), "0 read 0x05f5e10080862201\nend 1\n");
 }
 
 #[test]
@@ -45,12 +40,12 @@ fn logical_destination_and_all_numbers_are_decimal() {
     ]
     .concat();
     let expected = "0 ok\n1 ok\n2 ok\n3 ok\n4 ok\n5 pin 23 vector 255 dest 254 logical 1\nend 6\n";
-    assert_eq!(output(&log), expected);
+    assert_eq!(replay_from_reset(&log), expected);
 }
 
 #[test]
 fn empty_log() {
-    assert_eq!(output(&[]), "end 0\n");
+    assert_eq!(replay_from_reset(&[]), "end 0\n");
 }
 
 #[test]
@@ -58,9 +53,9 @@ fn too_long_is_tested_before_anything_else() {
     let mut log = DELIVER.repeat(LONGEST / 3);
     log.push(0x7E);
     assert_eq!(log.len(), LONGEST);
-    assert!(output(&log).ends_with("stopped 8 at 65535\n"));
+    assert!(replay_from_reset(&log).ends_with("stopped 8 at 65535\n"));
     log.push(0);
-    assert_eq!(output(&log), "too long\n");
+    assert_eq!(replay_from_reset(&log), "too long\n");
 }
 
 #[test]
@@ -78,7 +73,7 @@ fn the_ways_a_log_stops() {
         (&[0x7E, 0xB5, 6, 0x7E, 0xB5, 6, 6, 6, 6], "0 none\n1 none\nstopped 6 at 6\n"),
     ];
     for (log, expected) in cases {
-        assert_eq!(output(log), *expected, "{log:02X?}");
+        assert_eq!(replay_from_reset(log), *expected, "{log:02X?}");
     }
 }
 
@@ -96,5 +91,5 @@ fn refusals_are_printed_and_the_log_goes_on() {
     .concat();
     let expected = "0 refused 3\n1 refused 4\n2 refused 1\n3 refused 2\n4 refused 1\n\
                     5 refused 1\n6 refused 4\nend 7\n";
-    assert_eq!(output(&log), expected);
+    assert_eq!(replay_from_reset(&log), expected);
 }

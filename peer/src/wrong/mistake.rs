@@ -54,6 +54,10 @@ mistakes! {
     OtherModeDelivered: "a pin with another mode is delivered";
     StaleAssertion: "the step after a polarity write makes the edge";
     PolarityWriteEdge: "a polarity write makes an edge";
+    UnmaskMakesEdge: "unmasking an asserted edge pin makes an edge";
+    EdgeWriteMakesEdge: "a write from level to edge makes an edge";
+    DeassertClearsIrr: "remote IRR is cleared when the wire falls back";
+    MaskIgnored: "a masked pin is delivered";
     LevelWriteKeepsEdge: "a held edge comes back after a level write";
     PolarityDropsEdge: "a polarity write drops a held edge";
     IrrLostOnEdgeWrite: "remote IRR is lost when an entry is written edge";
@@ -86,6 +90,7 @@ mistakes! {
     NarrowKeepsPeriod: "entering 32-bit mode keeps the whole period";
     NarrowKeepsComparator: "leaving 32-bit mode restores the comparator";
     RouteAboveIgnoresAll: "a route above 23 ignores the whole write";
+    RouteAboveKeepsStatus: "a route above 23 keeps the status of an edge timer";
     RouteModulo: "a route above 23 is stored modulo 24";
     EdgeTypeKeepsStatus: "writing edge type keeps the status";
     StatusZeroClears: "writing 0 clears a status";
@@ -100,6 +105,8 @@ mistakes! {
     LevelRiseEdgeActiveLow: "a level timer's rise makes an edge on an active-low pin";
     LevelRiseSilent: "a level timer's rise makes no edge";
     PulseThrough: "a pulse is seen on a high wire";
+    PulseWithoutInterrupt: "an edge timer pulses with its interrupt off";
+    EdgeSetsStatus: "a firing edge timer sets its status";
     OrderSwapped: "timers fire in the order 2, 1, 0";
     LevelsFirst: "within a tick, level timers fire before edge timers";
     PulseByStart: "a pulse is judged by the wire at the advance's start";

@@ -14,7 +14,7 @@ pub use mistake::Mistake;
 
 use crate::board::{Board, Calls, Refusal};
 use crate::controller::Delivery;
-use crate::pin::{Pin, PINS, REMOTE_IRR};
+use crate::pin::{Pin, DELIVERY_MODE, MASK, PINS, REMOTE_IRR};
 use crate::timers::TIMERS;
 
 /// A model with a mistake.
@@ -59,6 +59,9 @@ impl Wrong {
             match self.mistake {
                 Mistake::OtherModeDead if !pin.is_fixed_mode() => pin.held &= old.held,
                 Mistake::MaskedEdgeHeld if pin.is_masked() => pin.held |= rises,
+                Mistake::DeassertClearsIrr if pin.is_level() && !pin.is_asserted() => {
+                    pin.low &= !REMOTE_IRR;
+                }
                 Mistake::EdgesCounted => self.memory.edges[number] |= rises && old.held,
                 Mistake::StaleAssertion => {
                     let stale = !self.memory.asserted[number] && pin.is_asserted();
@@ -89,10 +92,8 @@ impl Wrong {
                 None
             }
             Mistake::DeliversHighest => pins.iter().rposition(Pin::is_eligible),
-            Mistake::OtherModeDelivered => {
-                let fixed = |pin: &Pin| Pin { low: pin.low & !0x700, ..*pin };
-                pins.iter().position(|pin| fixed(pin).is_eligible())
-            }
+            Mistake::OtherModeDelivered => pins.iter().position(|pin| without(pin, DELIVERY_MODE)),
+            Mistake::MaskIgnored => pins.iter().position(|pin| without(pin, MASK)),
             Mistake::IrrBlocksEdge => {
                 pins.iter().position(|pin| pin.is_eligible() && !pin.remote_irr())
             }
@@ -111,6 +112,11 @@ impl Wrong {
             pin.held = std::mem::take(&mut self.memory.edges[number]);
         }
     }
+}
+
+/// The pin would be eligible without these bits.
+fn without(pin: &Pin, bits: u32) -> bool {
+    Pin { low: pin.low & !bits, ..*pin }.is_eligible()
 }
 
 impl Calls for Wrong {

@@ -81,12 +81,12 @@ impl Wrong {
     }
 
     fn wrong_timer_read(&self, offset: u64, value: u64) -> u64 {
-        let bits_of = |mask: u64| {
-            (0..TIMERS).map(|n| u64::from(self.memory.bits[n]) << n).sum::<u64>() & mask
-        };
-        match self.mistake {
-            Mistake::EdgeTypeKeepsStatus if offset == STATUS => return value | bits_of(7),
-            _ => {}
+        let remembers = matches!(
+            self.mistake,
+            Mistake::EdgeTypeKeepsStatus | Mistake::RouteAboveKeepsStatus | Mistake::EdgeSetsStatus
+        );
+        if offset == STATUS && remembers {
+            return (0..TIMERS).fold(value, |all, n| all | u64::from(self.memory.bits[n]) << n);
         }
         for n in 0..TIMERS {
             let timer = &self.board.timers.timer[n];

@@ -47,6 +47,8 @@ impl Wrong {
             | Mistake::WideComparesNarrow
             | Mistake::LevelRiseSilent
             | Mistake::PulseThrough
+            | Mistake::PulseWithoutInterrupt
+            | Mistake::EdgeSetsStatus
             | Mistake::OrderSwapped
             | Mistake::LevelsFirst
             | Mistake::OneShotDisarmed
@@ -180,6 +182,10 @@ impl Wrong {
             }
             Mistake::SilentNoStatus if !timer.interrupt => timer.status = old.status,
             Mistake::LevelRiseSilent if timer.level_type => *held = pin.held,
+            Mistake::EdgeSetsStatus if !timer.level_type => self.memory.bits[n] = true,
+            Mistake::PulseWithoutInterrupt if !timer.level_type && !pin.wire => {
+                *held |= !pin.is_level() && !pin.is_masked();
+            }
             Mistake::PulseThrough if timer.pulses() && pin.wire => {
                 *held |= !pin.is_level() && !pin.is_masked();
             }

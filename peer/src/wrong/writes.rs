@@ -65,6 +65,12 @@ impl Wrong {
             Mistake::PolarityWriteEdge if edge && !pin.is_masked() => {
                 pin.held |= !old.is_asserted() && pin.is_asserted();
             }
+            Mistake::UnmaskMakesEdge if edge && old.is_masked() && !pin.is_masked() => {
+                pin.held |= pin.is_asserted();
+            }
+            Mistake::EdgeWriteMakesEdge if edge && old.is_level() && !pin.is_masked() => {
+                pin.held |= pin.is_asserted();
+            }
             Mistake::LevelWriteKeepsEdge if edge => pin.held |= std::mem::take(edges),
             Mistake::LevelWriteKeepsEdge => *edges |= old.held,
             Mistake::IrrLostOnEdgeWrite if edge => pin.low &= !REMOTE_IRR,
@@ -113,7 +119,7 @@ impl Wrong {
         if offset == ENABLE {
             self.damage_enable(before);
         }
-        if offset == STATUS && self.has(Mistake::EdgeTypeKeepsStatus) {
+        if offset == STATUS {
             (0..TIMERS).for_each(|n| self.memory.bits[n] &= value >> n & 1 == 0);
         }
         for n in 0..TIMERS {
@@ -154,7 +160,8 @@ impl Wrong {
                 timer.route = (route % 24) as u16;
                 self.board.settle();
             }
-            Mistake::EdgeTypeKeepsStatus => {
+            Mistake::RouteAboveKeepsStatus if route <= 23 => self.memory.bits[n] = false,
+            Mistake::EdgeTypeKeepsStatus | Mistake::RouteAboveKeepsStatus => {
                 self.memory.bits[n] = !timer.level_type && (old.status || self.memory.bits[n]);
             }
             Mistake::InterruptOffClears if !timer.interrupt => timer.status = false,
