@@ -1,0 +1,74 @@
+//! The table, and the limits that are read off it.
+
+use peer::abi::Board;
+
+use crate::rows::{Taker, ADVANCE_BUSY, ADVANCE_IDLE, ADVANCE_ONE};
+use crate::time::{self, Pair};
+
+/// The rows so far, printed as they come.
+pub struct Table {
+    calls: Vec<(&'static str, Pair)>,
+}
+
+impl Taker for Table {
+    fn take(
+        &mut self,
+        name: &'static str,
+        start: &Board,
+        again: impl Fn(&mut Board),
+        library: impl Fn(&mut Board),
+        plain: impl Fn(&mut Board),
+    ) {
+        let pair = time::calls(start, again, library, plain);
+        self.print(name, pair);
+        self.calls.push((name, pair));
+    }
+}
+
+impl Table {
+    /// Prints the head.
+    pub fn new() -> Table {
+        println!(
+            "| {:<56} | {:>11} | {:>11} | {:>5} |",
+            "best time", "library, ns", "plain, ns", "ratio"
+        );
+        println!("|:{:-<56}-|-{:->11}:|-{:->11}:|-{:->5}:|", "", "", "", "");
+        Table { calls: Vec::new() }
+    }
+
+    /// Prints a row.
+    pub fn print(&self, name: &str, pair: Pair) {
+        let Pair { library, plain } = pair;
+        println!("| {name:<56} | {library:>11.1} | {plain:>11.1} | {:>5.2} |", pair.ratio());
+    }
+
+    fn library(&self, name: &str) -> f64 {
+        let row = self.calls.iter().find(|(other, _)| *other == name);
+        row.expect("the row was timed").1.library
+    }
+
+    /// Says which limits hold; answers whether all do.
+    pub fn check_limits(&self) -> bool {
+        let one = self.library(ADVANCE_ONE);
+        let idle = self.library(ADVANCE_IDLE) / one;
+        let busy = self.library(ADVANCE_BUSY) / one;
+        let slowest = self.calls.iter().max_by(|a, b| a.1.ratio().total_cmp(&b.1.ratio()));
+        let (name, pair) = slowest.expect("there are rows");
+        println!();
+        let limits = [
+            limit("full advance with nothing due, over advance by 1", idle, 1.5),
+            limit("full advance with 3 x 4,294,967,295 firings, over it", busy, 10.0),
+            limit(&format!("call slowest against plain Rust ({name})"), pair.ratio(), 2.0),
+        ];
+        let holding = limits.iter().filter(|&&holds| holds).count();
+        println!("{holding} passed, {} failed", limits.len() - holding);
+        holding == limits.len()
+    }
+}
+
+fn limit(name: &str, ratio: f64, most: f64) -> bool {
+    let holds = ratio <= most;
+    let word = if holds { "holds" } else { "DOES NOT HOLD" };
+    println!("{word}: {name}: {ratio:.2}, at most {most}");
+    holds
+}

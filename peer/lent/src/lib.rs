@@ -1,0 +1,75 @@
+//! The library's lent entry, called safely.
+
+use peer::abi::{Board, Call, Reply};
+
+/// The C interface.
+mod entry {
+    use super::{Board, Reply};
+
+    extern "C" {
+        pub fn nataqvoju_reset(board: *mut Board) -> Reply;
+        pub fn nataqvoju_read(board: *mut Board, window: u64, width: u64, offset: u64) -> Reply;
+        pub fn nataqvoju_write(
+            board: *mut Board,
+            window: u64,
+            width: u64,
+            offset: u64,
+            value: u64,
+        ) -> Reply;
+        pub fn nataqvoju_wire(board: *mut Board, pin: u64, level: u64) -> Reply;
+        pub fn nataqvoju_end(board: *mut Board, vector: u8) -> Reply;
+        pub fn nataqvoju_advance(board: *mut Board, ticks: u32) -> Reply;
+        pub fn nataqvoju_deliver(board: *mut Board) -> Reply;
+    }
+}
+
+// SAFETY, for every call below: the board is lent for the length of the call, and the entry
+// answers any bytes in it.
+
+/// Resets the board.
+pub fn reset(board: &mut Board) -> Reply {
+    unsafe { entry::nataqvoju_reset(board) }
+}
+
+/// Reads a register.
+pub fn read(board: &mut Board, window: u64, width: u64, offset: u64) -> Reply {
+    unsafe { entry::nataqvoju_read(board, window, width, offset) }
+}
+
+/// Writes a register.
+pub fn write(board: &mut Board, window: u64, width: u64, offset: u64, value: u64) -> Reply {
+    unsafe { entry::nataqvoju_write(board, window, width, offset, value) }
+}
+
+/// Sets an outside wire.
+pub fn wire(board: &mut Board, pin: u64, level: u64) -> Reply {
+    unsafe { entry::nataqvoju_wire(board, pin, level) }
+}
+
+/// End of interrupt.
+pub fn end(board: &mut Board, vector: u8) -> Reply {
+    unsafe { entry::nataqvoju_end(board, vector) }
+}
+
+/// Lets time pass.
+pub fn advance(board: &mut Board, ticks: u32) -> Reply {
+    unsafe { entry::nataqvoju_advance(board, ticks) }
+}
+
+/// The delivery step.
+pub fn deliver(board: &mut Board) -> Reply {
+    unsafe { entry::nataqvoju_deliver(board) }
+}
+
+/// Makes any call.
+pub fn call(board: &mut Board, call: Call) -> Reply {
+    match call {
+        Call::Reset => reset(board),
+        Call::Read { window, width, offset } => read(board, window, width, offset),
+        Call::Write { window, width, offset, value } => write(board, window, width, offset, value),
+        Call::Wire { pin, level } => wire(board, pin, level),
+        Call::End { vector } => end(board, vector),
+        Call::Advance { ticks } => advance(board, ticks),
+        Call::Deliver => deliver(board),
+    }
+}

@@ -1,0 +1,207 @@
+//! What happens in a log: interesting events, counted, so that a profile that never reaches one
+//! it is meant to reach shows up.
+
+mod ticks;
+mod watch;
+
+use crate::board::Refusal;
+use crate::generate::Profile;
+use crate::log::{records_of, LONGEST};
+use watch::Watcher;
+
+/// Declares the events: name, what it is, and the profiles that have to reach it (by letter:
+/// v valid, a adversarial, t timers, c controller, x torn).
+macro_rules! events {
+    ($($name:ident: $text:literal, $wanted:literal;)*) => {
+        /// An interesting event.
+        #[derive(Clone, Copy, PartialEq, Eq, Debug)]
+        pub enum Event {
+            $(#[doc = $text] $name,)*
+        }
+
+        impl Event {
+            /// All events, in the order of their numbers.
+            pub const ALL: &'static [Event] = &[$(Event::$name,)*];
+
+            /// What it is, in words.
+            pub fn text(self) -> &'static str {
+                match self { $(Event::$name => $text,)* }
+            }
+
+            /// The letters of the profiles that have to reach it.
+            fn wanted(self) -> &'static str {
+                match self { $(Event::$name => $wanted,)* }
+            }
+        }
+    };
+}
+
+events! {
+    WireEdge: "edge by an outside wire", "vatc";
+    WireEdgeActiveLow: "edge by a falling outside wire, active low", "vatc";
+    WireMasked: "edge ignored on a masked pin", "vtc";
+    WireHidden: "outside wire hidden behind a level timer", "vt";
+    OtherModeHolds: "edge held on a pin with another delivery mode", "vtc";
+    PulseAtRaise: "pulse: edge held at the raise", "vat";
+    PulseAtDrop: "pulse: edge held at the drop, active low", "vat";
+    PulseHidden: "pulse hidden by a high wire", "vat";
+    PulseMasked: "pulse on a masked pin", "vt";
+    LevelRise: "level timer: edge at the rise", "vat";
+    LevelRiseActiveLow: "level timer: rise without an edge, active low", "vat";
+    LevelSilent: "level timer fires with its interrupt off", "vat";
+    SameTick: "two timers fire in one tick", "vat";
+    OrderMatters: "order of the timers in one tick matters", "vat";
+    NarrowWrap: "32-bit timer fires past the wrap at 2^32", "vat";
+    WideWrap: "64-bit timer fires past the wrap at 2^64", "vat";
+    NarrowMatchAbove: "32-bit timer fires with the counter above 2^32", "vat";
+    ComparatorWrapNarrow: "comparator wraps at 2^32", "vat";
+    ComparatorWrapWide: "comparator wraps at 2^64", "vat";
+    PeriodZero: "periodic timer with period 0 fires", "vat";
+    PeriodOne: "periodic timer with period 1 fires", "vat";
+    PeriodHuge: "periodic timer with a period of 2^31 or more fires", "vat";
+    OneShotAgain: "one-shot timer fires again at the same comparator", "vat";
+    FullTurn: "one-shot timer fires again after more than 2^31 ticks", "vt";
+    AdvanceZero: "advance by 0", "vat";
+    AdvanceDisabled: "advance of a disabled block", "vat";
+    FullFires: "full advance with firings", "vat";
+    FullIdle: "full advance with nothing due", "vat";
+    FullEveryTick: "full advance with a firing at every tick", "vt";
+    ManyFirings: "several firings of a timer in one advance", "vat";
+    EdgeByEnable: "edge by enabling the block", "vt";
+    EdgeByDisable: "edge by disabling the block, active low", "vt";
+    EdgeByStatus: "edge by clearing a status, active low", "vt";
+    EdgeByConfiguration: "edge by a configuration write", "vt";
+    RewrittenHigh: "configuration rewritten while the wire stays high", "vt";
+    MovedWire: "route moved: one wire falls and another rises", "vt";
+    BitSix: "comparator write with bit 6", "vat";
+    BitSixAlone: "bit 6 written without bit 3", "vat";
+    BitSixRead: "bit 6 read as 1", "vat";
+    PeriodOnly: "periodic comparator write without bit 6", "vat";
+    OneShotKeepsPeriod: "one-shot comparator write beside a period", "vat";
+    RouteAbove: "route above 23 with other bits changed", "vat";
+    RouteAboveStatus: "route above 23 that clears a status", "t";
+    StatusByEdgeType: "status cleared by writing edge type", "vt";
+    NarrowReduces: "32-bit mode reduces a comparator", "vat";
+    NarrowReducesPeriod: "32-bit mode reduces a period", "vat";
+    NarrowWriteReduces: "comparator write reduced modulo 2^32", "vat";
+    CounterIgnored: "counter write ignored while enabled", "vat";
+    CounterTaken: "counter write taken", "vat";
+    MadeEqual: "write that makes counter and comparator equal", "vat";
+    HeldDropped: "held edge dropped by a level write", "vac";
+    HeldMasked: "held edge survives masking", "vac";
+    HeldUnmasked: "held edge unmasked again", "vc";
+    PolarityAsserts: "polarity write asserts an unmasked edge pin", "vac";
+    IrrOnEdge: "remote IRR on an edge entry", "vac";
+    IrrBack: "remote IRR back on a level entry", "vc";
+    StatusBitRead: "bit 12 read as 1", "vac";
+    IrrRead: "bit 14 read as 1", "vac";
+    DeliverEdge: "edge delivered", "vatc";
+    DeliverLevel: "level delivered", "vatc";
+    DeliverNone: "no pin eligible", "vatc";
+    DeliverLowest: "lowest of several eligible pins", "vatc";
+    DeliverPastMode: "delivery past a lower pin with another mode", "vc";
+    DeliverEdgeWithIrr: "edge delivered in spite of remote IRR", "vc";
+    DeliverBesideIrr: "level delivered while another pin waits for its end", "vac";
+    EndSeveral: "end of interrupt frees several pins", "vac";
+    EndOne: "end of interrupt frees one pin", "vac";
+    EndNothing: "end of interrupt frees nothing", "vac";
+    EndEdgeEntry: "end of interrupt meets remote IRR on an edge entry", "vc";
+    Refused1: "refused 1", "a";
+    Refused2: "refused 2", "a";
+    Refused3: "refused 3", "a";
+    Refused4: "refused 4", "a";
+    WindowBeforeWidth: "unknown window and bad width", "a";
+    WidthBeforeOffset: "bad width and bad offset", "a";
+    OffsetBeforeValue: "bad offset and value above 32 bits", "a";
+    PinBeforeLevel: "bad pin and bad level", "a";
+    Unlisted: "access to an unlisted timer offset or index", "va";
+    Stopped6: "stopped 6", "x";
+    Stopped7: "stopped 7", "x";
+    Stopped8: "stopped 8", "x";
+    StrayByte: "one or two stray bytes at the end", "x";
+    ShortBody: "record with its body cut", "x";
+    EmptyLog: "empty log", "x";
+    Longest: "log of 65,536 bytes", "x";
+    TooLong: "too long", "x";
+}
+
+impl Profile {
+    fn letter(self) -> char {
+        match self {
+            Profile::Valid => 'v',
+            Profile::Adversarial => 'a',
+            Profile::Timers => 't',
+            Profile::Controller => 'c',
+            Profile::Torn => 'x',
+        }
+    }
+}
+
+impl Event {
+    /// The profile is meant to reach it.
+    pub fn is_wanted_in(self, profile: Profile) -> bool {
+        self.wanted().contains(profile.letter())
+    }
+}
+
+/// How often each event happened.
+#[derive(Clone)]
+pub struct Counts(Vec<u64>);
+
+impl Counts {
+    /// Nothing happened yet.
+    pub fn new() -> Counts {
+        Counts(vec![0; Event::ALL.len()])
+    }
+
+    /// How often this one happened.
+    pub fn of(&self, event: Event) -> u64 {
+        self.0[event as usize]
+    }
+
+    fn note(&mut self, event: Event) {
+        self.0[event as usize] += 1;
+    }
+
+    fn note_if(&mut self, condition: bool, event: Event) {
+        if condition {
+            self.note(event);
+        }
+    }
+
+    /// Plays a log and counts what happens in it; answers the number of its records.
+    pub fn watch(&mut self, log: &[u8]) -> usize {
+        if log.len() > LONGEST {
+            self.note(Event::TooLong);
+            return 0;
+        }
+        self.note_if(log.is_empty(), Event::EmptyLog);
+        self.note_if(log.len() == LONGEST, Event::Longest);
+        let (records, stop) = records_of(log);
+        let mut watcher = Watcher::new(self);
+        for record in &records {
+            watcher.watch(record);
+        }
+        if let Some((refusal, place)) = stop {
+            self.watch_stop(refusal, log.len() - place);
+        }
+        records.len()
+    }
+
+    fn watch_stop(&mut self, refusal: Refusal, left: usize) {
+        match refusal {
+            Refusal::Mark => self.note(Event::Stopped6),
+            Refusal::Kind => self.note(Event::Stopped7),
+            _ => {
+                self.note(Event::Stopped8);
+                self.note(if left < 3 { Event::StrayByte } else { Event::ShortBody });
+            }
+        }
+    }
+}
+
+impl Default for Counts {
+    fn default() -> Counts {
+        Counts::new()
+    }
+}

@@ -1,0 +1,251 @@
+//! Follows a log record by record; advances are in [`super::ticks`].
+
+use super::{Counts, Event};
+use crate::board::{Board, CONTROLLER, TIMER_BLOCK};
+use crate::controller::{Controller, DATA};
+use crate::log::Record;
+use crate::pin::{Pin, PINS};
+use crate::timer::bits;
+use crate::timers::{comparator_of, configuration_of, COUNTER, ENABLE, STATUS, TIMERS};
+
+/// Follows one log.
+pub(super) struct Watcher<'counts> {
+    pub(super) counts: &'counts mut Counts,
+    board: Board,
+    /// The timer fired, and its comparator wasn't written since.
+    pub(super) fired: [bool; TIMERS],
+}
+
+impl<'counts> Watcher<'counts> {
+    pub(super) fn new(counts: &'counts mut Counts) -> Self {
+        Watcher { counts, board: Board::RESET, fired: [false; TIMERS] }
+    }
+}
+
+impl Watcher<'_> {
+    pub(super) fn watch(&mut self, record: &Record) {
+        let before = self.board;
+        let line = record.play(&mut self.board);
+        if let Some(number) = line.strip_prefix("refused ") {
+            return self.watch_refusal(record, number);
+        }
+        match *record {
+            Record::Read { window, offset, .. } => {
+                self.watch_read(u64::from(window), u64::from(offset));
+            }
+            Record::Write { window, offset, value, .. } => {
+                if u64::from(window) == CONTROLLER {
+                    self.watch_controller_write(&before, u64::from(offset));
+                } else {
+                    self.watch_timer_write(&before, u64::from(offset), value);
+                }
+            }
+            Record::Wire { pin, level } => self.watch_wire(&before, usize::from(pin), level == 1),
+            Record::End { vector } => self.watch_end(&before, vector),
+            Record::Advance { ticks } => self.watch_advance(before, ticks),
+            Record::Deliver => self.watch_delivery(&before),
+        }
+        self.watch_modes(&before);
+    }
+
+    fn watch_refusal(&mut self, record: &Record, number: &str) {
+        let event = match number {
+            "1" => Event::Refused1,
+            "2" => Event::Refused2,
+            "3" => Event::Refused3,
+            _ => Event::Refused4,
+        };
+        self.counts.note(event);
+        match *record {
+            Record::Wire { pin, level } => {
+                let both = usize::from(pin) >= PINS && level > 1;
+                self.counts.note_if(both, Event::PinBeforeLevel);
+            }
+            Record::Read { window, width, offset } => {
+                self.watch_bad_access(u64::from(window), width, u64::from(offset), 0);
+            }
+            Record::Write { window, width, offset, value } => {
+                self.watch_bad_access(u64::from(window), width, u64::from(offset), value);
+            }
+            _ => {}
+        }
+    }
+
+    fn watch_bad_access(&mut self, window: u64, width: u8, offset: u64, value: u64) {
+        let bad_width = width != 4 && width != 8;
+        self.counts.note_if(window > TIMER_BLOCK && bad_width, Event::WindowBeforeWidth);
+        if window == CONTROLLER && !Controller::has_offset(offset) {
+            self.counts.note_if(width != 4, Event::WidthBeforeOffset);
+            let big = width == 4 && value > u64::from(u32::MAX);
+            self.counts.note_if(big, Event::OffsetBeforeValue);
+        }
+    }
+
+    fn watch_read(&mut self, window: u64, offset: u64) {
+        if window == CONTROLLER && offset == DATA {
+            let index = self.board.controller.index as usize;
+            self.counts.note_if(matches!(index, 3..0x10 | 0x40..), Event::Unlisted);
+            if let Some(pin) = low_word_pin(&self.board) {
+                let pin = &self.board.controller.pins[pin];
+                self.counts.note_if(pin.is_eligible(), Event::StatusBitRead);
+                self.counts.note_if(pin.remote_irr(), Event::IrrRead);
+            }
+        } else if window == TIMER_BLOCK {
+            for n in 0..TIMERS {
+                let set = self.board.timers.timer[n].set_comparator;
+                let read = offset == configuration_of(n) && set;
+                self.counts.note_if(read, Event::BitSixRead);
+            }
+            self.counts.note_if(offset >= 0x160, Event::Unlisted);
+        }
+    }
+
+    fn watch_controller_write(&mut self, before: &Board, offset: u64) {
+        let Some(number) = low_word_pin(before).filter(|_| offset == DATA) else { return };
+        let (old, new) = (&before.controller.pins[number], &self.board.controller.pins[number]);
+        let counts = &mut *self.counts;
+        counts.note_if(old.held && !new.held, Event::HeldDropped);
+        counts.note_if(new.held && new.is_masked() && !old.is_masked(), Event::HeldMasked);
+        counts.note_if(new.held && old.is_masked() && !new.is_masked(), Event::HeldUnmasked);
+        let edge = !new.is_level() && !new.is_masked();
+        let asserts = !old.is_asserted() && new.is_asserted();
+        counts.note_if(edge && asserts, Event::PolarityAsserts);
+        counts.note_if(new.remote_irr() && !new.is_level(), Event::IrrOnEdge);
+        let back = new.remote_irr() && new.is_level() && !old.is_level();
+        counts.note_if(back, Event::IrrBack);
+    }
+
+    fn watch_timer_write(&mut self, before: &Board, offset: u64, value: u64) {
+        let edge = new_edges(before, &self.board);
+        match offset {
+            ENABLE => self.counts.note_if(
+                edge,
+                if self.board.timers.enabled { Event::EdgeByEnable } else { Event::EdgeByDisable },
+            ),
+            STATUS => self.counts.note_if(edge, Event::EdgeByStatus),
+            COUNTER => {
+                let enabled = before.timers.enabled;
+                let event = if enabled { Event::CounterIgnored } else { Event::CounterTaken };
+                self.counts.note(event);
+                let equal = self.board.timers.timer.iter().any(|timer| timer.matches(value));
+                self.counts.note_if(!enabled && equal, Event::MadeEqual);
+            }
+            _ => {}
+        }
+        for n in 0..TIMERS {
+            if offset == configuration_of(n) {
+                self.watch_configuration(before, n, value, edge);
+            } else if offset == comparator_of(n) {
+                self.watch_comparator(before, n, value);
+            }
+        }
+    }
+
+    fn watch_configuration(&mut self, before: &Board, n: usize, value: u64, edge: bool) {
+        let (old, new) = (before.timers.timer[n], self.board.timers.timer[n]);
+        let counts = &mut *self.counts;
+        counts.note_if(edge, Event::EdgeByConfiguration);
+        let high = |board: &Board, route: u16| board.controller.pins[usize::from(route)].wire;
+        let driven = before.timers.enabled && old.drives();
+        let rewritten = driven && new.drives() && old != new;
+        counts.note_if(rewritten && old.route == new.route, Event::RewrittenHigh);
+        let moved = rewritten
+            && old.route != new.route
+            && !high(&self.board, old.route)
+            && !high(before, new.route);
+        counts.note_if(moved, Event::MovedWire);
+        let alone = value & bits::SET_COMPARATOR != 0 && value & bits::PERIODIC == 0;
+        counts.note_if(alone, Event::BitSixAlone);
+        let above = (value >> bits::ROUTE_SHIFT & bits::ROUTE_MASK) as usize >= PINS;
+        counts.note_if(above && old != new, Event::RouteAbove);
+        let cleared = old.status && !new.status;
+        counts.note_if(above && cleared, Event::RouteAboveStatus);
+        counts.note_if(cleared, Event::StatusByEdgeType);
+        counts.note_if(old.comparator != new.comparator, Event::NarrowReduces);
+        counts.note_if(old.period != new.period, Event::NarrowReducesPeriod);
+        self.fired[n] = false;
+    }
+
+    fn watch_comparator(&mut self, before: &Board, n: usize, value: u64) {
+        let (old, new) = (before.timers.timer[n], self.board.timers.timer[n]);
+        let counts = &mut *self.counts;
+        counts.note_if(old.set_comparator, Event::BitSix);
+        counts.note_if(old.periodic && !old.set_comparator, Event::PeriodOnly);
+        counts.note_if(!old.periodic && old.period != 0, Event::OneShotKeepsPeriod);
+        counts.note_if(old.narrow && value >> 32 != 0, Event::NarrowWriteReduces);
+        let equal = new.comparator != old.comparator && new.matches(before.timers.counter);
+        counts.note_if(equal, Event::MadeEqual);
+        self.fired[n] = false;
+    }
+
+    fn watch_wire(&mut self, before: &Board, number: usize, level: bool) {
+        let (old, new) = (&before.controller.pins[number], &self.board.controller.pins[number]);
+        let counts = &mut *self.counts;
+        let edge = !old.held && new.held;
+        counts.note_if(edge && level, Event::WireEdge);
+        counts.note_if(edge && !level, Event::WireEdgeActiveLow);
+        let asserts = !old.is_asserted() && new.is_asserted();
+        counts.note_if(asserts && new.is_masked() && !new.is_level(), Event::WireMasked);
+        let changed = before.outside[number] != level;
+        counts.note_if(changed && old.wire == new.wire, Event::WireHidden);
+    }
+
+    fn watch_end(&mut self, before: &Board, vector: u8) {
+        let freed = before
+            .controller
+            .pins
+            .iter()
+            .zip(&self.board.controller.pins)
+            .filter(|(old, new)| old.remote_irr() && !new.remote_irr())
+            .count();
+        let event = match freed {
+            0 => Event::EndNothing,
+            1 => Event::EndOne,
+            _ => Event::EndSeveral,
+        };
+        self.counts.note(event);
+        let kept = |pin: &Pin| pin.remote_irr() && !pin.is_level() && pin.vector() == vector;
+        let meets = self.board.controller.pins.iter().any(kept);
+        self.counts.note_if(meets, Event::EndEdgeEntry);
+    }
+
+    fn watch_delivery(&mut self, before: &Board) {
+        let pins = &before.controller.pins;
+        let counts = &mut *self.counts;
+        let Some(number) = pins.iter().position(Pin::is_eligible) else {
+            return counts.note(Event::DeliverNone);
+        };
+        let pin = &pins[number];
+        counts.note(if pin.is_level() { Event::DeliverLevel } else { Event::DeliverEdge });
+        let several = pins.iter().filter(|pin| pin.is_eligible()).count() > 1;
+        counts.note_if(several, Event::DeliverLowest);
+        let other_mode = |pin: &Pin| Pin { low: pin.low & !0x700, ..*pin }.is_eligible();
+        counts.note_if(pins[..number].iter().any(other_mode), Event::DeliverPastMode);
+        counts.note_if(pin.remote_irr(), Event::DeliverEdgeWithIrr);
+        let waits = pins.iter().any(|pin| pin.is_level() && pin.remote_irr());
+        counts.note_if(pin.is_level() && waits, Event::DeliverBesideIrr);
+    }
+
+    /// Edges held on pins with another mode, whatever made them.
+    fn watch_modes(&mut self, before: &Board) {
+        let held = before
+            .controller
+            .pins
+            .iter()
+            .zip(&self.board.controller.pins)
+            .any(|(old, new)| !old.held && new.held && !new.is_fixed_mode());
+        self.counts.note_if(held, Event::OtherModeHolds);
+    }
+}
+
+/// The pin whose low word the data window shows.
+fn low_word_pin(board: &Board) -> Option<usize> {
+    let index = board.controller.index as usize;
+    let low = index >= 0x10 && index.is_multiple_of(2) && index < 0x10 + 2 * PINS;
+    low.then(|| (index - 0x10) / 2)
+}
+
+fn new_edges(before: &Board, after: &Board) -> bool {
+    let pins = before.controller.pins.iter().zip(&after.controller.pins);
+    pins.into_iter().any(|(old, new)| !old.held && new.held)
+}

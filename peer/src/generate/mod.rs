@@ -1,0 +1,84 @@
+//! Random logs and random states, biased so that the interesting things really happen.
+//!
+//! A log is made beside a model that plays it, so that comparators land near the counter, ends
+//! of interrupt meet a remote IRR, and advances stop just before, at or behind a due tick. A log
+//! keeps to a few pins and vectors, and reads the registers back often.
+
+mod choices;
+mod maker;
+mod moves;
+mod scenes;
+mod states;
+mod torn;
+
+pub use states::random_board;
+
+use crate::log::LONGEST;
+use crate::random::Random;
+use maker::Maker;
+
+/// What a log is mostly about.
+#[derive(Clone, Copy, PartialEq, Eq, Debug)]
+pub enum Profile {
+    /// A bit of everything, nothing refused on purpose.
+    Valid,
+    /// Bad windows, widths, offsets, pins, levels and values.
+    Adversarial,
+    /// Timers that share pins, wraps, all kinds of periods, full advances.
+    Timers,
+    /// Masking, polarity and trigger switches, remote IRR, storms of ends of interrupt.
+    Controller,
+    /// Cut, damaged and overlong logs.
+    Torn,
+}
+
+impl Profile {
+    /// All profiles.
+    pub const ALL: [Profile; 5] =
+        [Profile::Valid, Profile::Adversarial, Profile::Timers, Profile::Controller, Profile::Torn];
+
+    /// The name on the command line.
+    pub fn name(self) -> &'static str {
+        match self {
+            Profile::Valid => "valid",
+            Profile::Adversarial => "adversarial",
+            Profile::Timers => "timers",
+            Profile::Controller => "controller",
+            Profile::Torn => "torn",
+        }
+    }
+
+    /// The profile of that name.
+    pub fn named(name: &str) -> Option<Profile> {
+        Profile::ALL.into_iter().find(|profile| profile.name() == name)
+    }
+}
+
+/// The log with this number: the seed and the number decide it.
+pub fn log(profile: Profile, seed: u64, number: u64) -> Vec<u8> {
+    let mut random = Random::new(seed ^ number.wrapping_mul(0xD134_2543_DE82_EF95));
+    if profile == Profile::Torn {
+        torn::log(&mut random, number)
+    } else {
+        sound_log(profile, &mut random)
+    }
+}
+
+fn sound_log(profile: Profile, random: &mut Random) -> Vec<u8> {
+    let mut maker = Maker::new(random.any());
+    let length = match random.below(100) {
+        0..60 => 50 + random.below(350),
+        60..95 => 300 + random.below(700),
+        _ => u64::MAX,
+    };
+    if random.percent(80) {
+        maker.set_scene(profile);
+    }
+    while maker.records < length && maker.log.len() + LONGEST_MOVE < LONGEST {
+        maker.move_by(profile);
+    }
+    maker.log
+}
+
+/// No move adds more bytes than this.
+const LONGEST_MOVE: usize = 4_000;

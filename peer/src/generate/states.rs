@@ -1,0 +1,48 @@
+//! Random well-formed states.
+
+use super::choices::{any_pin, configuration, landmark, low_word, near, period, sometimes};
+use crate::board::Board;
+use crate::controller::Controller;
+use crate::pin::{Pin, PINS, REMOTE_IRR};
+use crate::random::Random;
+use crate::timer::{bits, Timer};
+use crate::timers::{Timers, TIMERS};
+
+/// A random well-formed state.
+pub fn random_board(random: &mut Random) -> Board {
+    let pins: Vec<u8> = (0..1 + random.below(4)).map(|_| any_pin(random)).collect();
+    let counter = landmark(random);
+    let timer = [(); TIMERS].map(|()| random_timer(random, counter, &pins));
+    let mut board = Board {
+        timers: Timers { counter, enabled: random.percent(85), timer },
+        controller: Controller {
+            id: random.below(16) as u32,
+            index: random.below(256) as u32,
+            pins: [(); PINS].map(|()| random_pin(random)),
+        },
+        outside: [(); PINS].map(|()| random.percent(30)),
+    };
+    for pin in 0..PINS {
+        board.controller.pins[pin].wire = board.wire_rule(pin);
+    }
+    board
+}
+
+fn random_pin(random: &mut Random) -> Pin {
+    let vector = 0x30 + random.below(4) as u8;
+    let mut pin = Pin { destination: random.any() as u8, ..Pin::RESET };
+    pin.write_low(low_word(random, vector));
+    pin.low |= sometimes(random, 30, REMOTE_IRR.into()) as u32;
+    pin.held = !pin.is_level() && random.percent(25);
+    pin
+}
+
+fn random_timer(random: &mut Random, counter: u64, pins: &[u8]) -> Timer {
+    let mut timer = Timer::RESET;
+    timer.comparator = near(random, counter);
+    timer.period = period(random);
+    let route = u64::from(random.choose(pins)) << bits::ROUTE_SHIFT;
+    timer.write_configuration(configuration(random) | route);
+    timer.status = timer.level_type && random.percent(40);
+    timer
+}

@@ -1,0 +1,94 @@
+//! Torn logs: cut, damaged, overlong or never a log at all.
+
+use super::{sound_log, Profile};
+use crate::log::{Reader, Record, LONGEST, MARK};
+use crate::random::Random;
+
+/// The first logs are those that chance would make too rarely, whatever the seed.
+const FIXED: u64 = 20;
+
+pub(super) fn log(random: &mut Random, number: u64) -> Vec<u8> {
+    if number < FIXED {
+        return deliveries([0, LONGEST, LONGEST + 1, LONGEST - 1][number as usize % 4]);
+    }
+    match random.below(100) {
+        0 => Vec::new(),
+        1..5 => deliveries(LONGEST - 3 + random.below(7) as usize),
+        5..9 => random_bytes(random),
+        _ => {
+            let profile = random.choose(&Profile::ALL[..4]);
+            let mut log = sound_log(profile, random);
+            for _ in 0..1 + random.below(10) / 8 {
+                damage(&mut log, random);
+            }
+            log
+        }
+    }
+}
+
+/// So many bytes of delivery steps, the last one cut if need be.
+fn deliveries(length: usize) -> Vec<u8> {
+    let mut log = Vec::new();
+    while log.len() < length {
+        Record::Deliver.append_to(&mut log);
+    }
+    log.truncate(length);
+    log
+}
+
+fn random_bytes(random: &mut Random) -> Vec<u8> {
+    let mut log: Vec<u8> = (0..random.below(12)).map(|_| random.any() as u8).collect();
+    if random.percent(60) {
+        log.splice(0..0, MARK);
+    }
+    log
+}
+
+fn damage(log: &mut Vec<u8>, random: &mut Random) {
+    let starts = record_starts(log);
+    let record = random.choose(&starts);
+    let place = random.below(log.len() as u64 + 1) as usize;
+    match random.below(8) {
+        0 => log.truncate(place),
+        1 => log.truncate(record + 1 + random.below(2) as usize),
+        2 => {
+            if let Some(byte) = log.get_mut(place) {
+                *byte ^= 1 << random.below(8);
+            }
+        }
+        3 => replace(log, record + random.below(2) as usize, random.any() as u8),
+        4 => {
+            let kind = random.choose(&[0, 7, 8, 9, 0x40, 0x86, 0xFF]);
+            replace(log, record + 2, kind);
+        }
+        5 => {
+            log.truncate(record);
+            log.extend(MARK);
+            log.push(random.choose(&[0, 7, 0x7E, 1, 5]));
+        }
+        6 => {
+            let stray =
+                random.choose(&[&[0x7E][..], &[0x7E, 0xB5], &[0x00], &[0xB5, 0x7E], &[0, 6]]);
+            log.extend(stray);
+        }
+        _ => {
+            log.insert(place, random.any() as u8);
+        }
+    }
+}
+
+fn replace(log: &mut [u8], place: usize, byte: u8) {
+    if let Some(old) = log.get_mut(place) {
+        *old = byte;
+    }
+}
+
+/// Where records start, the log's end included.
+fn record_starts(log: &[u8]) -> Vec<usize> {
+    let mut reader = Reader::new(log);
+    let mut starts = vec![0];
+    while let Some(Ok(_)) = reader.take() {
+        starts.push(reader.place());
+    }
+    starts
+}

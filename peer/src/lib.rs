@@ -1,0 +1,27 @@
+//! The second, independent model of the board.
+//!
+//! It is written from document 01 and the decided readings alone, in a structure of its own: a
+//! struct for each pin, wires that settle step by step, and time that jumps from one tick at
+//! which a pin can change to the next. The first program is compared with it.
+//!
+//! - [`pin`], [`controller`], [`timer`], [`timers`], [`board`]: the model.
+//! - [`log`]: event logs, read and replayed.
+//! - [`generate`], [`events`], [`shrink`], [`fuzz`]: random logs, what happens in them, and the
+//!   comparison with another program.
+//! - [`abi`]: the lent entry's memory layout and its answers.
+//! - [`wrong`], [`mutants`]: wrong models that the comparison has to find.
+
+pub mod abi;
+pub mod board;
+pub mod controller;
+pub mod events;
+pub mod fuzz;
+pub mod generate;
+pub mod log;
+pub mod mutants;
+pub mod pin;
+pub mod random;
+pub mod shrink;
+pub mod timer;
+pub mod timers;
+pub mod wrong;

@@ -1,0 +1,141 @@
+//! The command line of the second program.
+
+use std::io::{Read, Write};
+use std::path::PathBuf;
+use std::process::ExitCode;
+use std::time::SystemTime;
+
+use peer::fuzz::{self, FIXED_SEED, GATE_LOGS, LONG_LOGS};
+use peer::generate::Profile;
+use peer::log::replay_from_reset;
+use peer::mutants;
+
+const HELP: &str = "\
+The second, independent model of the board.
+
+  peer replay [FILE]
+      Replays a log from FILE, or from standard input.
+
+  peer fuzz --replay PATH [--seed N] [--logs N] [--profile NAME] [--long]
+      Makes random logs, runs the program at PATH on each and compares its output with this
+      program's, byte for byte. The first difference is shrunk and shown. Profiles: valid,
+      adversarial, timers, controller, torn; all in turn without --profile. A profile of which
+      enough logs were made has to reach every event that it is meant to reach. --long takes a
+      fresh seed and many logs.
+
+  peer mutants [--seed N] [--logs N]
+      Compares wrong models with the right one; every mistake has to be found.
+
+  peer help
+      This text.
+
+Exit status: 0 nothing failed, 1 something failed, 2 wrong use.
+";
+
+fn main() -> ExitCode {
+    let arguments: Vec<String> = std::env::args().skip(1).collect();
+    let words: Vec<&str> = arguments.iter().map(String::as_str).collect();
+    let result = match words.as_slice() {
+        [] | ["help" | "--help" | "-h", ..] | [_, "--help" | "-h"] => {
+            print!("{HELP}");
+            Ok(true)
+        }
+        ["replay"] => replay_command(None),
+        ["replay", file] => replay_command(Some(file)),
+        ["fuzz", options @ ..] => fuzz_command(options),
+        ["mutants", options @ ..] => mutants_command(options),
+        _ => Err(format!("this isn't a command: {}\n\n{HELP}", words.join(" "))),
+    };
+    match result {
+        Ok(true) => ExitCode::SUCCESS,
+        Ok(false) => ExitCode::FAILURE,
+        Err(message) => {
+            eprintln!("peer: {message}");
+            ExitCode::from(2)
+        }
+    }
+}
+
+fn replay_command(file: Option<&str>) -> Result<bool, String> {
+    let log = match file {
+        Some(file) => std::fs::read(file).map_err(|error| format!("can't read {file}: {error}"))?,
+        None => read_input().map_err(|error| format!("can't read standard input: {error}"))?,
+    };
+    let output = replay_from_reset(&log);
+    std::io::stdout()
+        .write_all(output.as_bytes())
+        .map_err(|error| format!("can't write the output: {error}"))?;
+    Ok(true)
+}
+
+fn read_input() -> std::io::Result<Vec<u8>> {
+    let mut log = Vec::new();
+    std::io::stdin().read_to_end(&mut log)?;
+    Ok(log)
+}
+
+fn fuzz_command(words: &[&str]) -> Result<bool, String> {
+    let mut program = None;
+    let (mut seed, mut logs, mut profile, mut long) = (None, None, None, false);
+    let mut words = words.iter();
+    while let Some(&word) = words.next() {
+        match word {
+            "--replay" => program = Some(PathBuf::from(value_of(word, words.next())?)),
+            "--seed" => seed = Some(number_of(word, words.next())?),
+            "--logs" => logs = Some(number_of(word, words.next())?),
+            "--profile" => profile = Some(profile_of(value_of(word, words.next())?)?),
+            "--long" => long = true,
+            _ => return Err(unknown_option(word)),
+        }
+    }
+    let (usual_seed, usual_logs) =
+        if long { (fresh_seed(), LONG_LOGS) } else { (FIXED_SEED, GATE_LOGS) };
+    fuzz::run(&fuzz::Options {
+        program: program.ok_or("which program? Say --replay PATH")?,
+        seed: seed.unwrap_or(usual_seed),
+        logs: logs.unwrap_or(usual_logs),
+        profile,
+    })
+}
+
+fn mutants_command(words: &[&str]) -> Result<bool, String> {
+    let (mut seed, mut logs) = (FIXED_SEED, mutants::LOGS);
+    let mut words = words.iter();
+    while let Some(&word) = words.next() {
+        match word {
+            "--seed" => seed = number_of(word, words.next())?,
+            "--logs" => logs = number_of(word, words.next())?,
+            _ => return Err(unknown_option(word)),
+        }
+    }
+    Ok(mutants::run(seed, logs))
+}
+
+fn unknown_option(word: &str) -> String {
+    format!("unknown option {word}; see peer help")
+}
+
+fn value_of<'word>(option: &str, word: Option<&&'word str>) -> Result<&'word str, String> {
+    word.copied().ok_or_else(|| format!("{option} wants a value"))
+}
+
+fn number_of(option: &str, word: Option<&&str>) -> Result<u64, String> {
+    let word = value_of(option, word)?;
+    let parsed = match word.strip_prefix("0x") {
+        Some(digits) => u64::from_str_radix(digits, 16),
+        None => word.parse(),
+    };
+    parsed.map_err(|_| format!("{option} wants a number, not {word}"))
+}
+
+fn profile_of(name: &str) -> Result<Profile, String> {
+    Profile::named(name).ok_or_else(|| {
+        let names: Vec<&str> = Profile::ALL.iter().map(|profile| profile.name()).collect();
+        format!("no profile {name}; there are {}", names.join(", "))
+    })
+}
+
+fn fresh_seed() -> u64 {
+    let now = SystemTime::now().duration_since(SystemTime::UNIX_EPOCH);
+    now.map_or(1, |time| time.as_nanos() as u64)
+}

@@ -1,0 +1,50 @@
+//! Shows that the comparison catches mistakes: each wrong model against the right one, on the
+//! same random logs. A mistake that isn't found is a hole in the generator.
+
+use crate::generate::{self, Profile};
+use crate::log::{records_of, replay_from_reset};
+use crate::shrink::shrink;
+use crate::wrong::{self, Mistake};
+
+/// Each mistake has to be found within so many logs.
+pub const LOGS: u64 = 500;
+/// The effort to shrink a difference.
+const SHRINK_EFFORT: usize = 8_000_000;
+
+/// Looks for every mistake, prints a line for each and `N passed, M failed`; answers whether
+/// all were found.
+pub fn run(seed: u64, logs: u64) -> bool {
+    let cases: Vec<Case> = (0..logs).map(|number| Case::new(seed, number)).collect();
+    let found = Mistake::ALL.iter().filter(|&&mistake| look_for(mistake, &cases)).count();
+    let missed = Mistake::ALL.len() - found;
+    println!("{found} passed, {missed} failed");
+    missed == 0
+}
+
+/// A log with its right output.
+struct Case {
+    log: Vec<u8>,
+    right: String,
+}
+
+impl Case {
+    fn new(seed: u64, number: u64) -> Case {
+        let profile = Profile::ALL[(number % Profile::ALL.len() as u64) as usize];
+        let log = generate::log(profile, seed, number);
+        Case { right: replay_from_reset(&log), log }
+    }
+}
+
+fn look_for(mistake: Mistake, cases: &[Case]) -> bool {
+    let text = mistake.text();
+    let shows = |case: &Case| wrong::replay(&case.log, mistake) != case.right;
+    let Some(place) = cases.iter().position(shows) else {
+        println!("{text:<64} NOT FOUND in {} logs", cases.len());
+        return false;
+    };
+    let differs = |log: &[u8]| wrong::replay(log, mistake) != replay_from_reset(log);
+    let short = shrink(&cases[place].log, SHRINK_EFFORT, differs);
+    let records = records_of(&short).0.len();
+    println!("{text:<64} found after {:>3} logs, {records:>2} records", place + 1);
+    true
+}

@@ -1,0 +1,121 @@
+//! The timer block: three timers, the main counter, and their registers.
+
+use crate::timer::Timer;
+
+/// Number of timers.
+pub const TIMERS: usize = 3;
+/// The offsets end here.
+pub const WINDOW_END: u64 = 0x400;
+
+/// Offset of the capability register.
+pub const CAPABILITY: u64 = 0x000;
+/// Offset of the block's configuration: bit 0 enables it.
+pub const ENABLE: u64 = 0x010;
+/// Offset of the three status bits.
+pub const STATUS: u64 = 0x020;
+/// Offset of the main counter.
+pub const COUNTER: u64 = 0x0F0;
+
+/// Offset of timer n's configuration.
+pub const fn configuration_of(timer: usize) -> u64 {
+    0x100 + 0x20 * timer as u64
+}
+
+/// Offset of timer n's comparator.
+pub const fn comparator_of(timer: usize) -> u64 {
+    0x108 + 0x20 * timer as u64
+}
+
+/// What the capability register reads.
+const CAPABILITY_VALUE: u64 = 0x05F5_E100_8086_2201;
+
+/// The timer block.
+#[derive(Clone, Copy, PartialEq, Eq, Debug)]
+pub struct Timers {
+    /// The main counter.
+    pub counter: u64,
+    /// The counter runs and level timers drive their wires.
+    pub enabled: bool,
+    /// The timers.
+    pub timer: [Timer; TIMERS],
+}
+
+/// A register of the block.
+enum Register {
+    Capability,
+    Enable,
+    Status,
+    Counter,
+    Configuration(usize),
+    Comparator(usize),
+    Unlisted,
+}
+
+impl Register {
+    fn at(offset: u64) -> Register {
+        match offset {
+            CAPABILITY => Register::Capability,
+            ENABLE => Register::Enable,
+            STATUS => Register::Status,
+            COUNTER => Register::Counter,
+            _ => (0..TIMERS)
+                .find_map(|n| match offset {
+                    _ if offset == configuration_of(n) => Some(Register::Configuration(n)),
+                    _ if offset == comparator_of(n) => Some(Register::Comparator(n)),
+                    _ => None,
+                })
+                .unwrap_or(Register::Unlisted),
+        }
+    }
+}
+
+impl Timers {
+    /// The block after a reset.
+    pub const RESET: Timers = Timers { counter: 0, enabled: false, timer: [Timer::RESET; TIMERS] };
+
+    /// A read at an offset that exists.
+    pub fn read(&self, offset: u64) -> u64 {
+        match Register::at(offset) {
+            Register::Capability => CAPABILITY_VALUE,
+            Register::Enable => u64::from(self.enabled),
+            Register::Status => self.read_status(),
+            Register::Counter => self.counter,
+            Register::Configuration(n) => self.timer[n].read_configuration(),
+            Register::Comparator(n) => self.timer[n].comparator,
+            Register::Unlisted => 0,
+        }
+    }
+
+    fn read_status(&self) -> u64 {
+        (0..TIMERS).map(|n| u64::from(self.timer[n].status) << n).sum()
+    }
+
+    /// A write at an offset that exists.
+    pub fn write(&mut self, offset: u64, value: u64) {
+        match Register::at(offset) {
+            Register::Enable => self.enabled = value & 1 != 0,
+            Register::Status => self.clear_status(value),
+            Register::Counter if !self.enabled => self.counter = value,
+            Register::Configuration(n) => self.timer[n].write_configuration(value),
+            Register::Comparator(n) => self.timer[n].write_comparator(value),
+            Register::Capability | Register::Counter | Register::Unlisted => {}
+        }
+    }
+
+    fn clear_status(&mut self, value: u64) {
+        for (n, timer) in self.timer.iter_mut().enumerate() {
+            timer.status &= value >> n & 1 == 0;
+        }
+    }
+
+    /// Some level timer holds this pin's wire high.
+    pub fn drive(&self, pin: usize) -> bool {
+        self.enabled
+            && self.timer.iter().any(|timer| timer.drives() && usize::from(timer.route) == pin)
+    }
+
+    /// The block's part of "well formed".
+    pub fn is_well_formed(&self) -> bool {
+        self.timer.iter().all(Timer::is_well_formed)
+    }
+}

@@ -1,0 +1,137 @@
+//! The mistakes that a model could make: those that document 01 names or shuts out, and the
+//! readings that were decided against.
+
+/// Declares the mistakes with their descriptions.
+macro_rules! mistakes {
+    ($($name:ident: $text:literal;)*) => {
+        /// A deliberate mistake.
+        #[derive(Clone, Copy, PartialEq, Eq, Debug)]
+        pub enum Mistake {
+            $(#[doc = $text] $name,)*
+        }
+
+        impl Mistake {
+            /// All mistakes.
+            pub const ALL: &'static [Mistake] = &[$(Mistake::$name,)*];
+
+            /// What is wrong, in words.
+            pub fn text(self) -> &'static str {
+                match self { $(Mistake::$name => $text,)* }
+            }
+        }
+    };
+}
+
+mistakes! {
+    // Named in the paper, or shut out by it.
+    GlobalWait: "one global wait for an end of interrupt";
+    AtOrAbove: "fires at or above the comparator";
+    MaskingDropsEdge: "masking drops a held edge";
+    EndByPin: "an end frees one pin instead of a vector";
+    PeriodOnce: "the period is added once for several firings";
+    SilentRegisterWrite: "a timer register write makes no edge";
+    AlwaysRefuses: "every call is refused";
+    DeliversNone: "a delivery step always says none";
+    AdvanceNothing: "an advance changes nothing";
+    FirstMatchOnly: "a timer fires only at its first match in an advance";
+    MadeUpCount: "several firings are counted as ticks over period";
+    // Refusals.
+    WidthBeforeWindow: "bad width is tested before the unknown window";
+    OffsetBeforeWidth: "bad offset is tested before the width";
+    ValueBeforeOffset: "a big value is tested before the offset";
+    LevelBeforePin: "a bad level is tested before the pin";
+    BigValueTaken: "a 4-byte write takes the low half of a big value";
+    AlignmentIgnored: "an unaligned timer offset isn't refused";
+    WindowEndTaken: "timer offset 0x400 isn't refused";
+    DataWindowAtFour: "the data window is at 0x04 too";
+    PinTwentyFour: "pin 24 isn't refused";
+    LevelTwo: "a wire level above 1 is taken for 1";
+    // The controller.
+    DeliversHighest: "a delivery step takes the highest pin";
+    EdgesCounted: "a second edge is delivered too";
+    MaskedEdgeHeld: "an edge on a masked pin is held";
+    OtherModeDead: "a pin with another mode holds no edge";
+    OtherModeDelivered: "a pin with another mode is delivered";
+    StaleAssertion: "the step after a polarity write makes the edge";
+    PolarityWriteEdge: "a polarity write makes an edge";
+    UnmaskMakesEdge: "unmasking an asserted edge pin makes an edge";
+    EdgeWriteMakesEdge: "a write from level to edge makes an edge";
+    DeassertClearsIrr: "remote IRR is cleared when the wire falls back";
+    MaskIgnored: "a masked pin is delivered";
+    LevelWriteKeepsEdge: "a held edge comes back after a level write";
+    PolarityDropsEdge: "a polarity write drops a held edge";
+    IrrLostOnEdgeWrite: "remote IRR is lost when an entry is written edge";
+    IrrLostOnWrite: "remote IRR is lost by every write";
+    IrrWritable: "bit 14 can be written";
+    IrrBlocksEdge: "remote IRR holds up edge deliveries";
+    EndFreesEdgeEntry: "an end clears remote IRR on an edge entry";
+    EndByOldVector: "an end goes by the vector that was delivered";
+    NoIrr: "a level pin is delivered again without an end";
+    StatusBitZero: "bit 12 always reads 0";
+    StatusBitUnmasked: "bit 12 reads 1 for a masked pin";
+    ArbitrationZero: "index 2 reads 0";
+    IdEightBits: "the id has eight bits";
+    IndexSixBits: "the index has six bits";
+    ReservedKept: "bits 31:17 of a low word are kept";
+    DestinationFourBits: "the destination has four bits";
+    LogicalZero: "a delivery says logical 0";
+    // Timer registers.
+    GlitchingWrite: "a configuration write is several steps";
+    SilentEnable: "enabling and disabling the block makes no edge";
+    SilentStatusClear: "clearing a status makes no edge";
+    LateInterruptSilent: "turning an interrupt on later makes no edge";
+    BitSixHidden: "bit 6 always reads 0";
+    BitSixKept: "bit 6 is kept without bit 3";
+    BitSixStays: "bit 6 stays after a comparator write";
+    BitSixComparatorOnly: "with bit 6 the period isn't written";
+    OneShotSetsPeriod: "a one-shot comparator write sets the period too";
+    PeriodSetsComparator: "a periodic write always sets the comparator";
+    PeriodReads: "a periodic comparator register reads the period";
+    NarrowKeepsPeriod: "entering 32-bit mode keeps the whole period";
+    NarrowKeepsComparator: "leaving 32-bit mode restores the comparator";
+    RouteAboveIgnoresAll: "a route above 23 ignores the whole write";
+    RouteAboveKeepsStatus: "a route above 23 keeps the status of an edge timer";
+    RouteModulo: "a route above 23 is stored modulo 24";
+    EdgeTypeKeepsStatus: "writing edge type keeps the status";
+    StatusZeroClears: "writing 0 clears a status";
+    InterruptOffClears: "turning the interrupt off clears the status";
+    DisableClears: "disabling the block clears the statuses";
+    CounterWriteTaken: "a counter write is taken while enabled";
+    CounterNeverWritten: "a counter write is never taken";
+    EnableResetsCounter: "enabling the block starts the counter at 0";
+    EqualWriteFires: "a write that makes them equal fires";
+    // Time.
+    RaiseEdgeOnly: "a pulse makes no edge at its drop";
+    LevelRiseEdgeActiveLow: "a level timer's rise makes an edge on an active-low pin";
+    LevelRiseSilent: "a level timer's rise makes no edge";
+    PulseThrough: "a pulse is seen on a high wire";
+    PulseWithoutInterrupt: "an edge timer pulses with its interrupt off";
+    EdgeSetsStatus: "a firing edge timer sets its status";
+    OrderSwapped: "timers fire in the order 2, 1, 0";
+    LevelsFirst: "within a tick, level timers fire before edge timers";
+    PulseByStart: "a pulse is judged by the wire at the advance's start";
+    PulseByEnd: "a pulse is judged by the wire at the advance's end";
+    EqualStartFires: "an advance that starts at a match fires";
+    ComparatorStuck: "a comparator that wraps never matches again";
+    PeriodZeroOnce: "a timer with period 0 fires only once";
+    WideComparesNarrow: "a 64-bit timer compares 32 bits";
+    OneShotDisarmed: "a one-shot timer fires only once";
+    PeriodZeroNever: "a timer with period 0 never fires";
+    PeriodZeroAlways: "a timer with period 0 fires at every tick";
+    NarrowComparesWide: "a 32-bit timer compares the whole counter";
+    NarrowWrapFires: "a 32-bit timer fires at every wrap";
+    SilentUncounted: "firings with the interrupt off aren't counted";
+    SilentNoStatus: "a level timer without interrupt sets no status";
+    ShortAdvance: "an advance takes 31 bits of ticks";
+    DisabledCounts: "a disabled block counts ticks";
+    // The log.
+    StrayByteIsMark: "stray bytes are taken for a wrong mark";
+    KindIsShort: "an unknown kind at the log's end is taken for a cut record";
+    BadRecordSkipped: "a bad record is skipped";
+    PlaceBehindMark: "the place of a bad record is behind its mark";
+    EndAfterStop: "the end is printed after a stop";
+    RefusalStops: "refusals 1 to 4 stop the log";
+    LimitTooLow: "a log of 65,536 bytes is too long";
+    LimitTooHigh: "a log of 65,537 bytes isn't too long";
+    BigEndianTicks: "ticks are read big-endian";
+}

@@ -1,0 +1,112 @@
+//! Mistakes in what an access is refused for, and in what a read gives.
+
+use super::{Mistake, Wrong};
+use crate::board::{Refusal, CONTROLLER, TIMER_BLOCK};
+use crate::controller::{Controller, DATA};
+use crate::pin::{DELIVERY_STATUS, MASK};
+use crate::timer::bits;
+use crate::timers::{comparator_of, configuration_of, STATUS, TIMERS, WINDOW_END};
+
+impl Wrong {
+    pub(super) fn wrong_offset(&self, window: u64, width: u64, offset: u64) -> u64 {
+        let moved =
+            self.has(Mistake::DataWindowAtFour) && (window, width, offset) == (CONTROLLER, 4, 0x04);
+        if moved {
+            DATA
+        } else {
+            offset
+        }
+    }
+
+    /// Refusals in a wrong order, or refusals that shouldn't be.
+    pub(super) fn wrong_refusal(
+        &self,
+        window: u64,
+        width: u64,
+        offset: u64,
+        value: u64,
+    ) -> Result<(), Refusal> {
+        let bad_offset = match window {
+            CONTROLLER => !Controller::has_offset(offset),
+            TIMER_BLOCK => offset >= WINDOW_END,
+            _ => true,
+        };
+        let big = window == CONTROLLER && width == 4 && value > u64::from(u32::MAX);
+        match self.mistake {
+            Mistake::AlwaysRefuses => Err(Refusal::State),
+            Mistake::WidthBeforeWindow if width != 4 && width != 8 => Err(Refusal::Width),
+            Mistake::OffsetBeforeWidth if bad_offset => Err(Refusal::Place),
+            Mistake::ValueBeforeOffset if big => Err(Refusal::Value),
+            _ => Ok(()),
+        }
+    }
+
+    /// An access that should be refused, but is done and does nothing.
+    pub(super) fn ignores(&self, window: u64, width: u64, offset: u64) -> bool {
+        let timers = window == TIMER_BLOCK && width == 8;
+        match self.mistake {
+            Mistake::AlignmentIgnored => timers && !offset.is_multiple_of(8) && offset < WINDOW_END,
+            Mistake::WindowEndTaken => timers && offset == WINDOW_END,
+            _ => false,
+        }
+    }
+
+    pub(super) fn wrong_read(&self, window: u64, offset: u64, value: u64) -> u64 {
+        if window == TIMER_BLOCK {
+            return self.wrong_timer_read(offset, value);
+        }
+        let index = self.board.controller.index;
+        if offset != DATA {
+            return value;
+        }
+        match self.mistake {
+            Mistake::ArbitrationZero if index == 2 => 0,
+            _ => match self.low_word_pin() {
+                None => value,
+                Some(number) => self.wrong_low(number, value),
+            },
+        }
+    }
+
+    fn wrong_low(&self, number: usize, value: u64) -> u64 {
+        let mut pin = self.board.controller.pins[number];
+        match self.mistake {
+            Mistake::StatusBitZero => value & !u64::from(DELIVERY_STATUS),
+            Mistake::StatusBitUnmasked => {
+                pin.low &= !MASK;
+                value | u64::from(pin.read_low() & DELIVERY_STATUS)
+            }
+            _ => value,
+        }
+    }
+
+    fn wrong_timer_read(&self, offset: u64, value: u64) -> u64 {
+        let remembers = matches!(
+            self.mistake,
+            Mistake::EdgeTypeKeepsStatus | Mistake::RouteAboveKeepsStatus | Mistake::EdgeSetsStatus
+        );
+        if offset == STATUS && remembers {
+            return (0..TIMERS).fold(value, |all, n| all | u64::from(self.memory.bits[n]) << n);
+        }
+        for n in 0..TIMERS {
+            let timer = &self.board.timers.timer[n];
+            if offset == configuration_of(n) {
+                return match self.mistake {
+                    Mistake::BitSixHidden => value & !bits::SET_COMPARATOR,
+                    Mistake::BitSixKept if self.memory.bits[n] => value | bits::SET_COMPARATOR,
+                    _ => value,
+                };
+            }
+            if offset == comparator_of(n) && self.has(Mistake::PeriodReads) && timer.periodic {
+                return timer.period;
+            }
+        }
+        value
+    }
+
+    /// The pin whose low word the data window shows.
+    pub(super) fn low_word_pin(&self) -> Option<usize> {
+        let index = self.board.controller.index as usize;
+        (matches!(index, 0x10..0x40) && index.is_multiple_of(2)).then(|| (index - 0x10) / 2)
+    }
+}

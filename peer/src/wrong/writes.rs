@@ -1,0 +1,210 @@
+//! Mistakes in register writes.
+
+use super::{Mistake, Wrong};
+use crate::board::{Board, Calls, Refusal, CONTROLLER, TIMER_BLOCK};
+use crate::controller::{DATA, INDEX};
+use crate::pin::{ACTIVE_LOW, MASK, REMOTE_IRR};
+use crate::timer::bits;
+use crate::timers::{comparator_of, configuration_of, COUNTER, ENABLE, STATUS, TIMERS};
+
+/// The upper half of a number.
+const UPPER: u64 = 0xFFFF_FFFF_0000_0000;
+
+impl Wrong {
+    pub(super) fn wrong_write(
+        &mut self,
+        window: u64,
+        width: u64,
+        offset: u64,
+        value: u64,
+    ) -> Result<(), Refusal> {
+        let before = self.board;
+        let value = match self.mistake {
+            Mistake::BigValueTaken if window == CONTROLLER => value & !UPPER,
+            Mistake::IndexSixBits if window == CONTROLLER && offset == INDEX => {
+                value & (UPPER | 0x3F)
+            }
+            _ => value,
+        };
+        if window == TIMER_BLOCK && width == 8 && self.goes_its_own_way(offset, value) {
+            return Ok(());
+        }
+        self.board.write(window, width, offset, value)?;
+        if window == TIMER_BLOCK {
+            self.damage_timer_write(&before, offset, value);
+            self.damage_step(&before);
+        } else if offset == DATA {
+            self.damage_data_write(&before, value as u32);
+        }
+        Ok(())
+    }
+
+    fn damage_data_write(&mut self, before: &Board, value: u32) {
+        let index = self.board.controller.index;
+        if let Some(number) = self.low_word_pin() {
+            return self.damage_low_write(before, number, value);
+        }
+        if index == 0 && self.has(Mistake::IdEightBits) {
+            self.board.controller.id = value >> 24 & 0xF | value >> 20 & 0xF;
+        }
+        if matches!(index, 0x10..0x40) && self.has(Mistake::DestinationFourBits) {
+            self.board.controller.pins[(index as usize - 0x10) / 2].destination &= 0x0F;
+        }
+    }
+
+    fn damage_low_write(&mut self, before: &Board, number: usize, value: u32) {
+        let old = before.controller.pins[number];
+        let edges = &mut self.memory.edges[number];
+        let pin = &mut self.board.controller.pins[number];
+        let edge = !pin.is_level();
+        match self.mistake {
+            Mistake::MaskingDropsEdge if pin.is_masked() => pin.held = false,
+            Mistake::PolarityDropsEdge if (old.low ^ pin.low) & ACTIVE_LOW != 0 => {
+                pin.held = false;
+            }
+            Mistake::PolarityWriteEdge if edge && !pin.is_masked() => {
+                pin.held |= !old.is_asserted() && pin.is_asserted();
+            }
+            Mistake::UnmaskMakesEdge if edge && old.is_masked() && !pin.is_masked() => {
+                pin.held |= pin.is_asserted();
+            }
+            Mistake::EdgeWriteMakesEdge if edge && old.is_level() && !pin.is_masked() => {
+                pin.held |= pin.is_asserted();
+            }
+            Mistake::LevelWriteKeepsEdge if edge => pin.held |= std::mem::take(edges),
+            Mistake::LevelWriteKeepsEdge => *edges |= old.held,
+            Mistake::IrrLostOnEdgeWrite if edge => pin.low &= !REMOTE_IRR,
+            Mistake::IrrLostOnWrite => pin.low &= !REMOTE_IRR,
+            Mistake::IrrWritable => pin.low = pin.low & !REMOTE_IRR | value & REMOTE_IRR,
+            Mistake::ReservedKept if value >> 17 != 0 => pin.low |= MASK,
+            _ => {}
+        }
+    }
+
+    /// Writes that the wrong model doesn't hand on; answers whether it was one.
+    fn goes_its_own_way(&mut self, offset: u64, value: u64) -> bool {
+        let route = value >> bits::ROUTE_SHIFT & bits::ROUTE_MASK;
+        let configuration = (0..TIMERS).any(|n| offset == configuration_of(n));
+        match self.mistake {
+            Mistake::RouteAboveIgnoresAll => configuration && route > 23,
+            Mistake::CounterNeverWritten => offset == COUNTER,
+            Mistake::CounterWriteTaken if offset == COUNTER => {
+                self.board.timers.counter = value;
+                true
+            }
+            Mistake::StatusZeroClears if offset == STATUS => {
+                self.board.timers.write(STATUS, !value);
+                self.board.settle();
+                true
+            }
+            Mistake::GlitchingWrite if configuration => {
+                self.board.timers.write(offset, value & !bits::INTERRUPT);
+                self.board.settle();
+                false
+            }
+            _ => false,
+        }
+    }
+
+    fn damage_timer_write(&mut self, before: &Board, offset: u64, value: u64) {
+        let silent = match self.mistake {
+            Mistake::SilentRegisterWrite => true,
+            Mistake::SilentEnable => offset == ENABLE,
+            Mistake::SilentStatusClear => offset == STATUS,
+            _ => false,
+        };
+        if silent {
+            self.restore_held(before);
+        }
+        if offset == ENABLE {
+            self.damage_enable(before);
+        }
+        if offset == STATUS {
+            (0..TIMERS).for_each(|n| self.memory.bits[n] &= value >> n & 1 == 0);
+        }
+        for n in 0..TIMERS {
+            if offset == configuration_of(n) {
+                self.damage_configuration(before, n, value);
+            } else if offset == comparator_of(n) {
+                self.damage_comparator(before, n);
+            }
+        }
+    }
+
+    fn damage_enable(&mut self, before: &Board) {
+        let enabled = self.board.timers.enabled;
+        match self.mistake {
+            Mistake::DisableClears if !enabled => {
+                self.board.timers.write(STATUS, 7);
+                self.board.settle();
+            }
+            Mistake::EnableResetsCounter if enabled && !before.timers.enabled => {
+                self.board.timers.counter = 0;
+            }
+            _ => {}
+        }
+    }
+
+    fn damage_configuration(&mut self, before: &Board, n: usize, value: u64) {
+        let old = before.timers.timer[n];
+        let timer = &mut self.board.timers.timer[n];
+        let route = value >> bits::ROUTE_SHIFT & bits::ROUTE_MASK;
+        match self.mistake {
+            Mistake::LateInterruptSilent if timer.interrupt && !old.interrupt => {
+                self.restore_held(before);
+            }
+            Mistake::BitSixKept => {
+                self.memory.bits[n] = value & bits::SET_COMPARATOR != 0;
+            }
+            Mistake::RouteModulo if route > 23 => {
+                timer.route = (route % 24) as u16;
+                self.board.settle();
+            }
+            Mistake::RouteAboveKeepsStatus if route <= 23 => self.memory.bits[n] = false,
+            Mistake::EdgeTypeKeepsStatus | Mistake::RouteAboveKeepsStatus => {
+                self.memory.bits[n] = !timer.level_type && (old.status || self.memory.bits[n]);
+            }
+            Mistake::InterruptOffClears if !timer.interrupt => timer.status = false,
+            Mistake::NarrowKeepsPeriod | Mistake::NarrowKeepsComparator => {
+                let period = self.has(Mistake::NarrowKeepsPeriod);
+                self.keep_wide(n, if period { old.period } else { old.comparator });
+            }
+            _ => {}
+        }
+    }
+
+    /// Remembers a number when 32-bit mode is entered and gives it back when it is left.
+    fn keep_wide(&mut self, n: usize, old: u64) {
+        let timer = &mut self.board.timers.timer[n];
+        if timer.narrow {
+            self.memory.wide[n].get_or_insert(old & UPPER);
+            return;
+        }
+        let upper = self.memory.wide[n].take().unwrap_or(0);
+        if self.mistake == Mistake::NarrowKeepsPeriod {
+            timer.period |= upper;
+        } else {
+            timer.comparator |= upper;
+        }
+    }
+
+    fn damage_comparator(&mut self, before: &Board, n: usize) {
+        let old = before.timers.timer[n];
+        self.memory.fired[n] = false;
+        self.memory.wide[n] = None;
+        let timer = &mut self.board.timers.timer[n];
+        match self.mistake {
+            Mistake::BitSixStays => timer.set_comparator = old.set_comparator,
+            Mistake::BitSixKept | Mistake::ComparatorStuck => self.memory.bits[n] = false,
+            Mistake::BitSixComparatorOnly if old.set_comparator => timer.period = old.period,
+            Mistake::OneShotSetsPeriod if !timer.periodic => timer.period = timer.comparator,
+            Mistake::PeriodSetsComparator if timer.periodic => timer.comparator = timer.period,
+            Mistake::EqualWriteFires
+                if before.timers.enabled && timer.matches(before.timers.counter) =>
+            {
+                self.board.fire(n);
+            }
+            _ => {}
+        }
+    }
+}

@@ -1,0 +1,58 @@
+//! A stand-in for the first program's library: the second program's model behind the same C
+//! interface. With it `lent-check` and the benchmarks can be tried without the library, and
+//! have to pass.
+
+use peer::abi::{Board, Call, Reply};
+
+fn answer(board: *mut Board, call: Call) -> Reply {
+    // SAFETY: the caller lends a board for the length of the call, as the interface asks.
+    call.answer(unsafe { &mut *board })
+}
+
+/// Resets the board.
+#[no_mangle]
+pub extern "C" fn nataqvoju_reset(board: *mut Board) -> Reply {
+    answer(board, Call::Reset)
+}
+
+/// Reads a register.
+#[no_mangle]
+pub extern "C" fn nataqvoju_read(board: *mut Board, window: u64, width: u64, offset: u64) -> Reply {
+    answer(board, Call::Read { window, width, offset })
+}
+
+/// Writes a register.
+#[no_mangle]
+pub extern "C" fn nataqvoju_write(
+    board: *mut Board,
+    window: u64,
+    width: u64,
+    offset: u64,
+    value: u64,
+) -> Reply {
+    answer(board, Call::Write { window, width, offset, value })
+}
+
+/// Sets an outside wire.
+#[no_mangle]
+pub extern "C" fn nataqvoju_wire(board: *mut Board, pin: u64, level: u64) -> Reply {
+    answer(board, Call::Wire { pin, level })
+}
+
+/// End of interrupt.
+#[no_mangle]
+pub extern "C" fn nataqvoju_end(board: *mut Board, vector: u8) -> Reply {
+    answer(board, Call::End { vector })
+}
+
+/// Lets time pass.
+#[no_mangle]
+pub extern "C" fn nataqvoju_advance(board: *mut Board, ticks: u32) -> Reply {
+    answer(board, Call::Advance { ticks })
+}
+
+/// The delivery step.
+#[no_mangle]
+pub extern "C" fn nataqvoju_deliver(board: *mut Board) -> Reply {
+    answer(board, Call::Deliver)
+}

@@ -1,0 +1,105 @@
+//! Calls by short names, each of which has to be done.
+#![allow(dead_code, missing_docs)] // each test file uses some of them
+
+use peer::board::{Board, Calls, CONTROLLER, TIMER_BLOCK};
+use peer::controller::{DATA, INDEX};
+use peer::timers::{comparator_of, configuration_of, COUNTER, ENABLE, STATUS};
+
+pub struct Desk(pub Board);
+
+impl Desk {
+    pub fn new() -> Desk {
+        Desk(Board::RESET)
+    }
+
+    pub fn read_index(&mut self, index: u64) -> u64 {
+        self.0.write(CONTROLLER, 4, INDEX, index).unwrap();
+        self.0.read(CONTROLLER, 4, DATA).unwrap()
+    }
+
+    pub fn write_index(&mut self, index: u64, value: u64) {
+        self.0.write(CONTROLLER, 4, INDEX, index).unwrap();
+        self.0.write(CONTROLLER, 4, DATA, value).unwrap();
+    }
+
+    pub fn low(&mut self, pin: u64) -> u64 {
+        self.read_index(0x10 + 2 * pin)
+    }
+
+    pub fn set_low(&mut self, pin: u64, word: u64) {
+        self.write_index(0x10 + 2 * pin, word);
+    }
+
+    pub fn set_high(&mut self, pin: u64, word: u64) {
+        self.write_index(0x11 + 2 * pin, word);
+    }
+
+    pub fn wire(&mut self, pin: u64, level: u64) {
+        self.0.wire(pin, level).unwrap();
+    }
+
+    pub fn end(&mut self, vector: u8) {
+        self.0.end(vector).unwrap();
+    }
+
+    /// The delivered pin and vector.
+    pub fn deliver(&mut self) -> Option<(u8, u8)> {
+        self.0.deliver().unwrap().map(|to| (to.pin, to.vector))
+    }
+
+    pub fn get(&mut self, offset: u64) -> u64 {
+        self.0.read(TIMER_BLOCK, 8, offset).unwrap()
+    }
+
+    pub fn set(&mut self, offset: u64, value: u64) {
+        self.0.write(TIMER_BLOCK, 8, offset, value).unwrap();
+    }
+
+    pub fn enable(&mut self) {
+        self.set(ENABLE, 1);
+    }
+
+    pub fn disable(&mut self) {
+        self.set(ENABLE, 0);
+    }
+
+    pub fn set_counter(&mut self, value: u64) {
+        self.set(COUNTER, value);
+    }
+
+    pub fn counter(&mut self) -> u64 {
+        self.get(COUNTER)
+    }
+
+    pub fn configure(&mut self, timer: usize, value: u64) {
+        self.set(configuration_of(timer), value);
+    }
+
+    pub fn configuration(&mut self, timer: usize) -> u64 {
+        self.get(configuration_of(timer))
+    }
+
+    pub fn set_comparator(&mut self, timer: usize, value: u64) {
+        self.set(comparator_of(timer), value);
+    }
+
+    pub fn comparator(&mut self, timer: usize) -> u64 {
+        self.get(comparator_of(timer))
+    }
+
+    pub fn status(&mut self) -> u64 {
+        self.get(STATUS)
+    }
+
+    pub fn clear(&mut self, bits: u64) {
+        self.set(STATUS, bits);
+    }
+
+    pub fn advance(&mut self, ticks: u32) -> [u32; 3] {
+        self.0.advance(ticks).unwrap()
+    }
+
+    pub fn route(pin: u64) -> u64 {
+        pin << 9
+    }
+}
