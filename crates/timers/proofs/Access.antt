@@ -12,7 +12,7 @@ use Rattle.answers.specs.declared.Refusal.the-variants as refusal
 use Rattle.answers.specs.declared.Answer.the-variants as answer
 use Rattle.timer.specs.declared.Timer.{Timer}
 use Rattle.timer.specs.State.{flag}
-use Rattle.timer.specs.Registers.{bit, placed, clearedOf}
+use Rattle.timer.specs.Registers.{bit, placed, configuredOf, comparedOf, clearedOf}
 use Rattle.timers.specs.declared.Timers.{Timers}
 use Rattle.timers.specs.declared.Ran.{Ran}
 use Rattle.timers.specs.State.{at, isEnabled, withCounter, withEnabled, withList, withTimers, withTimer}
@@ -69,7 +69,7 @@ module _ (s : Timers) (o : ℕ) where
       unfolding writtenOf
       write-above l = rw (ne-eqb o 0x010 n1, ne-eqb o 0x020 n2, ne-eqb o 0x0F0 n3, le-leb 0x100 o (omega arith), le-ltb o 0x160 l)
 
-      pub write-timer : 0x100 ≤ o → o < 0x160 → writtenOf s o v ≡ withTimer s (numbered o) (timerWritten (at s (numbered o)) o v)
+      pub write-timer : 0x100 ≤ o → o < 0x160 → writtenOf s o v ≡ timerWritten s o v
       unfolding writtenOf
       write-timer l h = rw (ne-eqb o 0x010 n1, ne-eqb o 0x020 n2, ne-eqb o 0x0F0 n3, le-leb 0x100 o l, lt-ltb o 0x160 h)
 
@@ -175,3 +175,18 @@ cleared-code s v b0 b1 b2 x0 x1 x2 e0 e1 e2 f0 f1 f2 =
   where
     by : ℕ → ℕ → Timer
     by m b = cond (flag b) (clearedOf (at s m)) (at s m)
+
+-- ---- a write to a timer's registers
+
+module _ (s : Timers) (o v : ℕ) where
+  pub write-configuration : o % 0x20 ≡ 0 → timerWritten s o v ≡ withTimer s (numbered o) (configuredOf (at s (numbered o)) v)
+  unfolding timerWritten
+  write-configuration e = rw e
+
+  pub write-comparator : o % 0x20 ≡ 8 → timerWritten s o v ≡ withTimer s (numbered o) (comparedOf (at s (numbered o)) v)
+  unfolding timerWritten
+  write-comparator e = rw e
+
+  pub write-neither : (o % 0x20 ≡ 0 → ⊥) → (o % 0x20 ≡ 8 → ⊥) → timerWritten s o v ≡ s
+  unfolding timerWritten
+  write-neither n k = rw (ne-eqb (o % 0x20) 0 n, ne-eqb (o % 0x20) 8 k)

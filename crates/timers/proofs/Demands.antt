@@ -17,12 +17,13 @@ use Rattle.timers.specs.declared.Ran.{Ran}
 use Rattle.timers.specs.State.{at, resetTimers}
 use Rattle.timers.specs.Formed.{wellFormed}
 use Rattle.timers.specs.Registers.{aligned, inside}
-use Rattle.timers.specs.Tick.{ticks, firings, ranOf}
-use Rattle.timers.specs.Call.{turn, readOf, writeOf, advanceOf}
+use Rattle.timers.specs.Tick.{countedOf, matchesOf, firedOf, ticks, firings, ranOf, drivesOf, pulsesOf, routeOf}
+use Rattle.timers.specs.Call.{turn, readingOf, writingOf, readOf, writeOf, advanceOf}
 use Rattle.timers.proofs.Access.{write-done, advance-done, advancing-is}
 use Rattle.timers.proofs.Formed.{reset-formed, ticks-formed, read-timers, writing-formed}
 use Rattle.timers.proofs.Numbers.{number, value, fired, Unchanged, accessNumber, read-number, write-number, exactly-0, exactly-1, exactly-2, exactly-5, advance-number, advance-fired, advance-timers, read-refusing, write-refusing, advance-refusing}
 use Rattle.timers.proofs.Portions.{ticks-add, firings-add, total}
+use Rattle.timers.proofs.Turns.{ran-timers}
 use Rattle.timers.proofs.Runs.{SameBut, ticks-alike, firings-alike}
 
 -- ---- "Comparator facts are shown once over the width, for 32 and 64."
@@ -186,28 +187,59 @@ read-kept s w o e = ap wellFormed (read-timers s w o) ∙ e
 pub write-kept : (s : Timers) (w o v : ℕ) → wellFormed s ≡ true → wellFormed (writeOf s w o v .timers) ≡ true
 write-kept s w o v e = ap (λ (r : Turn). wellFormed (r .timers)) (write-done s w o v e) ∙ writing-formed s w o e v
 
+pub writing-kept : (s : Timers) (w o v : ℕ) → wellFormed s ≡ true → wellFormed (writingOf s w o v .timers) ≡ true
+writing-kept s w o v e = writing-formed s w o e v
+
+pub ran-kept : (s : Timers) (n : ℕ) → wellFormed s ≡ true → wellFormed (ranOf s n .timers) ≡ true
+ran-kept s n e = ap wellFormed (ran-timers s n) ∙ ticks-formed n s e
+
 pub advance-kept : (s : Timers) (n : ℕ) → wellFormed s ≡ true → wellFormed (advanceOf s n .timers) ≡ true
 advance-kept s n e = ap wellFormed (advance-timers s n e) ∙ ticks-formed n s e
 
 -- ---- "prove that any two results allowed are equal": each call's promise is an equation on its whole result
 
-any-two : {A : Type 0} {x r r' : A} → r ≡ x → r' ≡ x → r ≡ r'
+pub any-two : {A : Type 0} {x r r' : A} → r ≡ x → r' ≡ x → r ≡ r'
 any-two p q = p ∙ sym q
 
 pub reset-one : (r r' : Timers) → r ≡ resetTimers → r' ≡ resetTimers → r ≡ r'
 reset-one r r' = any-two
 
-pub read-one : (s : Timers) (w o : ℕ) (r r' : Turn) → r ≡ readOf s w o → r' ≡ readOf s w o → r ≡ r'
-read-one s w o r r' = any-two
+module _ (s : Timers) where
+  pub well-formed-one : (r r' : Bool) → r ≡ wellFormed s → r' ≡ wellFormed s → r ≡ r'
+  well-formed-one r r' = any-two
 
-pub write-one : (s : Timers) (w o v : ℕ) (r r' : Turn) → r ≡ writeOf s w o v → r' ≡ writeOf s w o v → r ≡ r'
-write-one s w o v r r' = any-two
+  pub read-one : (w o : ℕ) (r r' : Turn) → r ≡ readOf s w o → r' ≡ readOf s w o → r ≡ r'
+  read-one w o r r' = any-two
 
-pub advance-one : (s : Timers) (n : ℕ) (r r' : Turn) → r ≡ advanceOf s n → r' ≡ advanceOf s n → r ≡ r'
-advance-one s n r r' = any-two
+  pub write-one : (w o v : ℕ) (r r' : Turn) → r ≡ writeOf s w o v → r' ≡ writeOf s w o v → r ≡ r'
+  write-one w o v r r' = any-two
 
-pub ran-one : (s : Timers) (n : ℕ) (r r' : Ran) → r ≡ ranOf s n → r' ≡ ranOf s n → r ≡ r'
-ran-one s n r r' = any-two
+  pub advance-one : (n : ℕ) (r r' : Turn) → r ≡ advanceOf s n → r' ≡ advanceOf s n → r ≡ r'
+  advance-one n r r' = any-two
 
-pub formed-one : (s : Timers) (r r' : Bool) → r ≡ wellFormed s → r' ≡ wellFormed s → r ≡ r'
-formed-one s r r' = any-two
+  pub reading-one : (w o : ℕ) (r r' : Turn) → r ≡ readingOf s w o → r' ≡ readingOf s w o → r ≡ r'
+  reading-one w o r r' = any-two
+
+  pub writing-one : (w o v : ℕ) (r r' : Turn) → r ≡ writingOf s w o v → r' ≡ writingOf s w o v → r ≡ r'
+  writing-one w o v r r' = any-two
+
+  pub ran-one : (n : ℕ) (r r' : Ran) → r ≡ ranOf s n → r' ≡ ranOf s n → r ≡ r'
+  ran-one n r r' = any-two
+
+  pub counted-one : (r r' : Timers) → r ≡ countedOf s → r' ≡ countedOf s → r ≡ r'
+  counted-one r r' = any-two
+
+  pub matches-one : (m : ℕ) (r r' : Bool) → r ≡ matchesOf s m → r' ≡ matchesOf s m → r ≡ r'
+  matches-one m r r' = any-two
+
+  pub fired-one : (m : ℕ) (r r' : Timers) → r ≡ firedOf s m → r' ≡ firedOf s m → r ≡ r'
+  fired-one m r r' = any-two
+
+  pub drives-one : (p : ℕ) (r r' : Bool) → r ≡ drivesOf s p → r' ≡ drivesOf s p → r ≡ r'
+  drives-one p r r' = any-two
+
+  pub pulses-one : (m : ℕ) (r r' : Bool) → r ≡ pulsesOf s m → r' ≡ pulsesOf s m → r ≡ r'
+  pulses-one m r r' = any-two
+
+  pub route-one : (m r r' : ℕ) → r ≡ routeOf s m → r' ≡ routeOf s m → r ≡ r'
+  route-one m r r' = any-two

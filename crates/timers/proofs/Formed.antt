@@ -130,23 +130,23 @@ module _ (s : Timers) (e : wellFormed s ≡ true) (v : ℕ) where
       go true m l = cleared-formed (at s m) (at-formed s e m l)
       go false m l = at-formed s e m l
 
-  timer-formed : (t : Timer) (o : ℕ) → timerFormed t ≡ true → timerFormed (timerWritten t o v) ≡ true
+  timer-written-formed : (o : ℕ) → numbered o < 3 → wellFormed (timerWritten s o v) ≡ true
   unfolding timerWritten
-  timer-formed t o h = go (isConfiguration o) (isComparator o)
+  timer-written-formed o l = go (isConfiguration o) (isComparator o)
     where
-      go : (a b : Bool) → timerFormed (cond a (configuredOf t v) (cond b (comparedOf t v) t)) ≡ true
-      go true b = configured-formed t h v
-      go false true = compared-formed t h v
-      go false false = h
+      n : ℕ
+      n = numbered o
+
+      go : (a b : Bool) → wellFormed (cond a (withTimer s n (configuredOf (at s n) v)) (cond b (withTimer s n (comparedOf (at s n) v)) s)) ≡ true
+      go true b = with-timer-formed s e n (configuredOf (at s n) v) (configured-formed (at s n) (at-formed s e n l) v)
+      go false true = with-timer-formed s e n (comparedOf (at s n) v) (compared-formed (at s n) (at-formed s e n l) v)
+      go false false = e
 
   pub written-formed : (o : ℕ) → wellFormed (writtenOf s o v) ≡ true
   unfolding writtenOf
   written-formed o = go (eqb o 0x010) (eqb o 0x020) (eqb o 0x0F0) (ofTimer o) refl
     where
-      m : ℕ
-      m = numbered o
-
-      in-three : ofTimer o ≡ true → m < 3
+      in-three : ofTimer o ≡ true → numbered o < 3
       in-three h = omega (arith, ltb-true o 0x160 (and-right (leb 0x100 o) (ltb o 0x160) h))
 
       go :
@@ -155,12 +155,12 @@ module _ (s : Timers) (e : wellFormed s ≡ true) (v : ℕ) where
           (cond a (withEnabled s (bit 0 v))
           (cond b (withTimers s (clearedBy v s))
           (cond c (cond (isEnabled s) s (withCounter s v))
-          (cond d (withTimer s m (timerWritten (at s m) o v)) s))))
+          (cond d (timerWritten s o v) s))))
           ≡ true
       go true b c d q = enabled-formed
       go false true c d q = status-formed
       go false false true d q = counter-formed
-      go false false false true q = with-timer-formed s e m (timerWritten (at s m) o v) (timer-formed (at s m) o (at-formed s e m (in-three q)))
+      go false false false true q = timer-written-formed o (in-three q)
       go false false false false q = e
 
 -- ---- the calls

@@ -59,8 +59,10 @@ registerOf s offset =
 abbrev pub clearedBy : ℕ → Timers → ℕ → Timer
 clearedBy v s m = cond (flag (bit m v)) (clearedOf (at s m)) (at s m)
 
-unfoldable pub timerWritten : Timer → ℕ → ℕ → Timer
-timerWritten t offset v = cond (isConfiguration offset) (configuredOf t v) (cond (isComparator offset) (comparedOf t v) t)
+unfoldable pub timerWritten : Timers → ℕ → ℕ → Timers
+timerWritten s offset v =
+    let n = numbered offset in
+    cond (isConfiguration offset) (withTimer s n (configuredOf (at s n) v)) (cond (isComparator offset) (withTimer s n (comparedOf (at s n) v)) s)
 
 -- 0x010: bit 0 enable; 0x0F0: a write while enabled is ignored; offsets not listed ignore writes
 unfoldable pub writtenOf : Timers → ℕ → ℕ → Timers
@@ -68,4 +70,4 @@ writtenOf s offset v =
     cond (eqb offset 0x010) (withEnabled s (bit 0 v))
     (cond (eqb offset 0x020) (withTimers s (clearedBy v s))
     (cond (eqb offset 0x0F0) (cond (isEnabled s) s (withCounter s v))
-    (cond (ofTimer offset) (withTimer s (numbered offset) (timerWritten (at s (numbered offset)) offset v)) s)))
+    (cond (ofTimer offset) (timerWritten s offset v) s)))

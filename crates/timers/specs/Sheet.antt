@@ -60,11 +60,12 @@ sheet =
 abbrev pub numbers : Turn → Numbers
 numbers r = numbersOf (r .answer)
 
--- the state after the writes, if none of them was refused
+-- no write is refused
 unfoldable pub allDone : List Write → Timers → Bool
 allDone [] s = true
 allDone (w ∷ ws) s = eqb (numbers (writeOf s 8 (w .offset) (w .value)) .number) 0 && allDone ws (writeOf s 8 (w .offset) (w .value) .timers)
 
+-- the state after them
 unfoldable pub setUp : List Write → Timers → Timers
 setUp [] s = s
 setUp (w ∷ ws) s = setUp ws (writeOf s 8 (w .offset) (w .value) .timers)

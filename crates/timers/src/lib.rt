@@ -1,6 +1,6 @@
 // The timer block: three timers and their counter, by value.
 ghost use mathlib.Core.Path.{_≡_};
-ghost use Prim.Native.Nat.{_+_, _-_, _*_, _/_, _%_, _<_};
+ghost use Prim.Native.Nat.{_≤_};
 ghost use mathlib.Core.Bool.{cond};
 ghost use Rattle.timer.specs.State.{flag};
 ghost use Rattle.timer.specs.Registers.{bit, clearedOf};
@@ -278,6 +278,22 @@ impl Timers {
         next
     }
 
+    // A write to an offset of the timers' registers.
+    fn timer_written(self, offset: u64, value: u64) -> Timers
+        requires { ⌜ 0x100 ≤ offset ⌝ }
+        ensures { λ r. ⌜ r ≡ timerWritten self offset value ⌝ }
+    {
+        let m = ((offset - Timers::TIMERS) / Timers::STEP) as usize;
+        let place = offset % Timers::STEP;
+        if place == 0 {
+            return self.with(m, self.at(m).configured(value));
+        }
+        if place == Timers::COMPARATOR {
+            return self.with(m, self.at(m).compared(value));
+        }
+        self
+    }
+
     // A write to an offset in the window.
     fn written(self, offset: u64, value: u64) -> Timers
         ensures { λ r. ⌜ r ≡ writtenOf self offset value ⌝ }
@@ -297,8 +313,7 @@ impl Timers {
         if Timers::TIMERS_END <= offset {
             return self;
         }
-        let m = ((offset - Timers::TIMERS) / Timers::STEP) as usize;
-        self.with(m, timer_written(self.at(m), offset, value))
+        self.timer_written(offset, value)
     }
 
     // ---- calls on a state that is known to be well formed
@@ -397,20 +412,6 @@ fn timer_register(t: Timer, offset: u64) -> u64
         return t.comparator;
     }
     0
-}
-
-// A write to it.
-fn timer_written(t: Timer, offset: u64, value: u64) -> Timer
-    ensures { λ r. ⌜ r ≡ timerWritten t offset value ⌝ }
-{
-    let place = offset % Timers::STEP;
-    if place == 0 {
-        return t.configured(value);
-    }
-    if place == Timers::COMPARATOR {
-        return t.compared(value);
-    }
-    t
 }
 
 // A timer after a write of b to its status.

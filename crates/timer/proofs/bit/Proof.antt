@@ -7,15 +7,12 @@ use Rattle.timer.proofs.bit.Tie as tie
 use Rattle.timer.proofs.bit.Reads as reads
 use Rattle.timer.proofs.bit.Lts as lts
 
--- src/lib.rt:49:7
 shr-result : tie.Need-shr-result
 shr-result c = search needs
 
--- src/lib.rt:49:5
 cast-result : tie.Need-cast-result
 cast-result c = omega (arith, mask-lt (c .args .v / 2 ^ c .args .k) 1)
 
--- src/lib.rt:45:1
 returns : tie.Need-returns
 returns c = and-mask (c .args .v / 2 ^ c .args .k) 1
 

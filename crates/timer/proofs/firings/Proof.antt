@@ -9,31 +9,25 @@ use Rattle.timer.proofs.firings.Tie as tie
 use Rattle.timer.proofs.firings.Reads as reads
 use Rattle.timer.proofs.firings.Lts as lts
 
--- src/lib.rt:64:9
 returns : tie.Need-returns
 returns c = rw (c .if1 .taken) (sym (times-never (c .before .args .s) (c .before .args .n)))
 
--- src/lib.rt:68:9
 returns-2 : tie.Need-returns-2
 returns-2 c = sym (times-early _ _ _ (c .if2 .taken))
 
--- src/lib.rt:71:9
 returns-3 : tie.Need-returns-3
 returns-3 c =
     let a = c .before .before .before .args in
     sym (times-late (a .d) (a .s) (a .n) (omega arith) (c .before .if2 .left) ∙ rw (c .if3 .taken) (rw div-zero refl))
 
--- src/lib.rt:73:9
 div-result : tie.Need-div-result
 div-result c = search needs
 
--- src/lib.rt:73:5
 add-result : tie.Need-add-result
 add-result c =
     let a = c .before .before .before .args in
     omega (arith, div-le-self (a .n - a .d) (a .s))
 
--- src/lib.rt:60:1
 returns-4 : tie.Need-returns-4
 returns-4 c =
     let a = c .before .before .before .args in

@@ -4,11 +4,9 @@ use Rattle.timer.proofs.reduced.Tie as tie
 use Rattle.timer.proofs.reduced.Reads as reads
 use Rattle.timer.proofs.reduced.Lts as lts
 
--- src/lib.rt:37:1
 returns : tie.Need-returns
 returns c = rw (c .if1 .taken)
 
--- src/lib.rt:37:1
 returns-2 : tie.Need-returns-2
 returns-2 c = search needs
 

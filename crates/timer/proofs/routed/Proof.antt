@@ -7,15 +7,12 @@ use Rattle.timer.proofs.routed.Tie as tie
 use Rattle.timer.proofs.routed.Reads as reads
 use Rattle.timer.proofs.routed.Lts as lts
 
--- src/lib.rt:94:17
 cast-result : tie.Need-cast-result
 cast-result c = search needs
 
--- src/lib.rt:90:1
 returns : tie.Need-returns
 returns c = rw (← (and-mask (c .before .args .v / 512) 5)) (rw (lt-ltb _ _ (c .if1 .taken)))
 
--- src/lib.rt:90:1
 returns-2 : tie.Need-returns-2
 returns-2 c = rw (← (and-mask (c .before .args .v / 512) 5)) (rw (le-ltb _ _ (c .if1 .left)))
 

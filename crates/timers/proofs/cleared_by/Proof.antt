@@ -6,15 +6,12 @@ use Rattle.timers.proofs.cleared_by.Reads as reads
 use Rattle.timers.proofs.cleared_by.Lts as lts
 use Rattle.timer.proofs.Timer.cleared.Reads as cleared-reads
 
--- src/lib.rt:416:17
 cleared-requires : tie.Need-cleared-requires
 cleared-requires c κs = search needs
 
--- src/lib.rt:413:1
 returns : tie.Need-returns
 returns c = rw (c .before .if1 .taken) (c .cleared .ensures)
 
--- src/lib.rt:413:1
 returns-2 : tie.Need-returns-2
 returns-2 c = rw (ne-eqb _ _ (c .if1 .left))
 

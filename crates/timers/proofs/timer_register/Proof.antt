@@ -7,21 +7,17 @@ use Rattle.timers.proofs.timer_register.Reads as reads
 use Rattle.timers.proofs.timer_register.Lts as lts
 use Rattle.timer.proofs.Timer.configuration.Reads as configuration-reads
 
--- src/lib.rt:390:9
 configuration-requires : tie.Need-configuration-requires
 configuration-requires c κs = search needs
 
--- src/lib.rt:390:9
 returns : tie.Need-returns
 unfolding timerRegister
 returns c = rw (c .before .if1 .taken) (c .configuration .ensures)
 
--- src/lib.rt:393:9
 returns-2 : tie.Need-returns-2
 unfolding timerRegister
 returns-2 c = rw (c .if2 .taken)
 
--- src/lib.rt:385:1
 returns-3 : tie.Need-returns-3
 unfolding timerRegister
 returns-3 c = rw (ne-eqb _ _ (c .before .if1 .left), ne-eqb _ _ (c .if2 .left))

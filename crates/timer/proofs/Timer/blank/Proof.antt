@@ -4,7 +4,6 @@ use Rattle.timer.proofs.Timer.blank.Tie as tie
 use Rattle.timer.proofs.Timer.blank.Reads as reads
 use Rattle.timer.proofs.Timer.blank.Lts as lts
 
--- src/lib.rt:99:5
 returns : tie.Need-returns
 returns c = refl
 

@@ -5,7 +5,6 @@ use Rattle.timer.proofs.Timer.cleared.Tie as tie
 use Rattle.timer.proofs.Timer.cleared.Reads as reads
 use Rattle.timer.proofs.Timer.cleared.Lts as lts
 
--- src/lib.rt:302:5
 returns : tie.Need-returns
 unfolding clearedOf
 returns c = refl

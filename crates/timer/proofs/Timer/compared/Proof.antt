@@ -8,19 +8,15 @@ use Rattle.timer.proofs.Timer.compared.Lts as lts
 use Rattle.timer.proofs.choose.Reads as choose-reads
 use Rattle.timer.proofs.reduced.Reads as reduced-reads
 
--- src/lib.rt:289:13
 reduced-requires : tie.Need-reduced-requires
 reduced-requires c κs = search needs
 
--- src/lib.rt:292:13
 choose-requires : tie.Need-choose-requires
 choose-requires c κs = search needs
 
--- src/lib.rt:295:13
 returns : tie.Need-returns
 returns c = compared-periodic _ _ _ _ (eq-eqb _ _ (c .before .before .if1 .taken)) (c .before .before .before .before .reduced .ensures) (c .choose .ensures)
 
--- src/lib.rt:286:5
 returns-2 : tie.Need-returns-2
 returns-2 c = compared-once _ _ _ (ne-eqb _ _ (c .if1 .left)) (c .before .before .reduced .ensures)
 

@@ -8,31 +8,24 @@ use Rattle.timer.proofs.Timer.configuration.Reads as reads
 use Rattle.timer.proofs.Timer.configuration.Lts as lts
 use Rattle.timer.proofs.placed.Reads as placed-reads
 
--- src/lib.rt:261:19
 placed-requires : tie.Need-placed-requires
 placed-requires c κs = search needs
 
--- src/lib.rt:262:16
 placed-requires-2 : tie.Need-placed-requires-2
 placed-requires-2 c κs = search needs
 
--- src/lib.rt:262:44
 placed-requires-3 : tie.Need-placed-requires-3
 placed-requires-3 c κs = search needs
 
--- src/lib.rt:263:20
 placed-requires-4 : tie.Need-placed-requires-4
 placed-requires-4 c κs = search needs
 
--- src/lib.rt:263:46
 placed-requires-5 : tie.Need-placed-requires-5
 placed-requires-5 c κs = search needs
 
--- src/lib.rt:264:12
 cast-result : tie.Need-cast-result
 cast-result c = search needs
 
--- src/lib.rt:258:5
 returns : tie.Need-returns
 returns c = let a = c .before in
     let s = a .before .before .before .before .before in

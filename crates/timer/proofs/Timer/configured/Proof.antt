@@ -9,47 +9,36 @@ use Rattle.timer.proofs.choose_flag.Reads as choose-flag-reads
 use Rattle.timer.proofs.reduced.Reads as reduced-reads
 use Rattle.timer.proofs.routed.Reads as routed-reads
 
--- src/lib.rt:269:13
 bit-requires : tie.Need-bit-requires
 bit-requires c κs = search needs
 
--- src/lib.rt:270:13
 bit-requires-2 : tie.Need-bit-requires-2
 bit-requires-2 c κs = search needs
 
--- src/lib.rt:271:13
 bit-requires-3 : tie.Need-bit-requires-3
 bit-requires-3 c κs = search needs
 
--- src/lib.rt:273:25
 reduced-requires : tie.Need-reduced-requires
 reduced-requires c κs = search needs
 
--- src/lib.rt:274:21
 reduced-requires-2 : tie.Need-reduced-requires-2
 reduced-requires-2 c κs = search needs
 
--- src/lib.rt:275:20
 routed-requires : tie.Need-routed-requires
 routed-requires c κs = search needs
 
--- src/lib.rt:277:24
 bit-requires-4 : tie.Need-bit-requires-4
 bit-requires-4 c κs = search needs
 
--- src/lib.rt:279:56
 bit-requires-5 : tie.Need-bit-requires-5
 bit-requires-5 c κs = search needs
 
--- src/lib.rt:279:29
 choose-flag-requires : tie.Need-choose-flag-requires
 choose-flag-requires c κs = search needs
 
--- src/lib.rt:281:21
 choose-flag-requires-2 : tie.Need-choose-flag-requires-2
 choose-flag-requires-2 c κs = search needs
 
--- src/lib.rt:266:5
 returns : tie.Need-returns
 unfolding configuredOf
 returns c = cc

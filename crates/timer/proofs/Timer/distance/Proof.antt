@@ -8,15 +8,12 @@ use Rattle.timer.proofs.Timer.distance.Lts as lts
 use Rattle.std.proofs.num.wrapping_sub_u64.Reads as wrapping-sub-u64-reads
 use Rattle.timer.proofs.reduced.Reads as reduced-reads
 
--- src/lib.rt:212:13
 wrapping-sub-u64-requires : tie.Need-wrapping-sub-u64-requires
 wrapping-sub-u64-requires c κs = search needs
 
--- src/lib.rt:210:9
 reduced-requires : tie.Need-reduced-requires
 reduced-requires c κs = search needs
 
--- src/lib.rt:207:5
 returns : tie.Need-returns
 returns c = distance-ahead _ _ _ _ (omega arith) (c .before .wrapping-sub-u64 .ensures) (c .reduced .ensures)
 

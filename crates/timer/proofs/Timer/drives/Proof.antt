@@ -6,11 +6,9 @@ use Rattle.timer.proofs.Timer.drives.Tie as tie
 use Rattle.timer.proofs.Timer.drives.Reads as reads
 use Rattle.timer.proofs.Timer.drives.Lts as lts
 
--- src/lib.rt:201:63
 cast-result : tie.Need-cast-result
 cast-result c = search needs
 
--- src/lib.rt:197:5
 returns : tie.Need-returns
 unfolding driving
 returns c = refl

@@ -8,15 +8,12 @@ use Rattle.timer.proofs.Timer.fired.Lts as lts
 use Rattle.std.proofs.num.wrapping_add_u64.Reads as wrapping-add-u64-reads
 use Rattle.timer.proofs.Timer.fired_to.Reads as fired-to-reads
 
--- src/lib.rt:183:23
 wrapping-add-u64-requires : tie.Need-wrapping-add-u64-requires
 wrapping-add-u64-requires c κs = search needs
 
--- src/lib.rt:183:9
 fired-to-requires : tie.Need-fired-to-requires
 fired-to-requires c κs = search needs
 
--- src/lib.rt:180:5
 returns : tie.Need-returns
 returns c = c .fired-to .ensures ∙ fired-once _ _ (c .before .wrapping-add-u64 .ensures)
 

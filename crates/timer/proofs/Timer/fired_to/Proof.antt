@@ -9,19 +9,15 @@ use Rattle.timer.proofs.choose.Reads as choose-reads
 use Rattle.timer.proofs.choose_flag.Reads as choose-flag-reads
 use Rattle.timer.proofs.reduced.Reads as reduced-reads
 
--- src/lib.rt:172:13
 reduced-requires : tie.Need-reduced-requires
 reduced-requires c κs = search needs
 
--- src/lib.rt:170:9
 choose-requires : tie.Need-choose-requires
 choose-requires c κs = search needs
 
--- src/lib.rt:175:9
 choose-flag-requires : tie.Need-choose-flag-requires
 choose-flag-requires c κs = search needs
 
--- src/lib.rt:166:5
 returns : tie.Need-returns
 returns c = fired-code _ _ _ _ _ (omega arith) (c .before .before .before .reduced .ensures) (c .before .before .choose .ensures) (c .choose-flag .ensures)
 

@@ -5,7 +5,6 @@ use Rattle.timer.proofs.Timer.flags_fit.Tie as tie
 use Rattle.timer.proofs.Timer.flags_fit.Reads as reads
 use Rattle.timer.proofs.Timer.flags_fit.Lts as lts
 
--- src/lib.rt:132:5
 returns : tie.Need-returns
 unfolding flagsFit
 returns c = refl

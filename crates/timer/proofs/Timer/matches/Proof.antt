@@ -6,15 +6,12 @@ use Rattle.timer.proofs.Timer.matches.Reads as reads
 use Rattle.timer.proofs.Timer.matches.Lts as lts
 use Rattle.timer.proofs.reduced.Reads as reduced-reads
 
--- src/lib.rt:162:9
 reduced-requires : tie.Need-reduced-requires
 reduced-requires c κs = search needs
 
--- src/lib.rt:162:37
 reduced-requires-2 : tie.Need-reduced-requires-2
 reduced-requires-2 c κs = search needs
 
--- src/lib.rt:158:5
 returns : tie.Need-returns
 unfolding meets
 returns c = rw (c .before .reduced .ensures, c .reduced2 .ensures)

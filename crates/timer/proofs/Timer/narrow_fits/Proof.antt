@@ -5,7 +5,6 @@ use Rattle.timer.proofs.Timer.narrow_fits.Tie as tie
 use Rattle.timer.proofs.Timer.narrow_fits.Reads as reads
 use Rattle.timer.proofs.Timer.narrow_fits.Lts as lts
 
--- src/lib.rt:141:5
 returns : tie.Need-returns
 unfolding narrowFits
 returns c = refl

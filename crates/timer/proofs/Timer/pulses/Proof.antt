@@ -5,7 +5,6 @@ use Rattle.timer.proofs.Timer.pulses.Tie as tie
 use Rattle.timer.proofs.Timer.pulses.Reads as reads
 use Rattle.timer.proofs.Timer.pulses.Lts as lts
 
--- src/lib.rt:190:5
 returns : tie.Need-returns
 unfolding pulsing
 returns c = refl

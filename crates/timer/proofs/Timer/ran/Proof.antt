@@ -15,59 +15,47 @@ use Rattle.timer.proofs.Timer.fired_to.Reads as fired-to-reads
 use Rattle.timer.proofs.Timer.stride.Reads as stride-reads
 use Rattle.timer.proofs.firings.Reads as firings-reads
 
--- src/lib.rt:231:13
 distance-requires : tie.Need-distance-requires
 distance-requires c κs = search needs
 
--- src/lib.rt:232:13
 stride-requires : tie.Need-stride-requires
 stride-requires c κs = search needs
 
--- src/lib.rt:233:13
 firings-requires : tie.Need-firings-requires
 firings-requires c κs = search needs
 
--- src/lib.rt:235:13
 returns : tie.Need-returns
 returns c = let s = c .before .before .before .before in
     let k : s .args .self .comparator < 2 ^ 64 = omega arith in
     answer-none (s .args .self) (s .args .counter) (s .args .ticks) (c .before .before .before .distance .result) (c .before .before .stride .result) (c .before .firings .result)
     k (s .fits .ticks .fits) (c .before .before .before .distance .ensures) (c .before .before .stride .ensures) (c .before .firings .ensures) (c .if1 .taken)
 
--- src/lib.rt:241:65
 sub-wrapping-add-u64 : tie.Need-sub-wrapping-add-u64
 sub-wrapping-add-u64 c = search needs
 
--- src/lib.rt:241:64
 mul-wrapping-add-u64 : tie.Need-mul-wrapping-add-u64
 mul-wrapping-add-u64 c = let h = code-some _ _ _ _ (c .before .firings .ensures) (c .if1 .left) in
     omega (arith, h .far)
 
--- src/lib.rt:241:13
 wrapping-add-u64-requires : tie.Need-wrapping-add-u64-requires
 wrapping-add-u64-requires c κs = search needs
 
--- src/lib.rt:242:13
 wrapping-add-u64-requires-2 : tie.Need-wrapping-add-u64-requires-2
 wrapping-add-u64-requires-2 c κs = search needs
 
--- src/lib.rt:244:20
 fired-to-requires : tie.Need-fired-to-requires
 fired-to-requires c κs = search needs
 
--- src/lib.rt:245:20
 cast-t13 : tie.Need-cast-t13
 cast-t13 c = let i = c .before .before .before in
     let h = code-some _ _ _ _ (i .before .firings .ensures) (i .if1 .left) in
     omega (arith, h .few)
 
--- src/lib.rt:246:20
 cast-t14 : tie.Need-cast-t14
 cast-t14 c = let i = c .before .before .before in
     let h = code-some _ _ _ _ (i .before .firings .ensures) (i .if1 .left) in
     omega (arith, h .due)
 
--- src/lib.rt:228:5
 returns-2 : tie.Need-returns-2
 returns-2 c = let w = c .before in
     let i = w .before .before in

@@ -5,7 +5,6 @@ use Rattle.timer.proofs.Timer.reset.Tie as tie
 use Rattle.timer.proofs.Timer.reset.Reads as reads
 use Rattle.timer.proofs.Timer.reset.Lts as lts
 
--- src/lib.rt:116:5
 returns : tie.Need-returns
 unfolding resetTimer
 returns c = refl

@@ -9,15 +9,12 @@ use Rattle.timer.proofs.Timer.stride.Lts as lts
 use Rattle.timer.proofs.choose.Reads as choose-reads
 use Rattle.timer.proofs.reduced.Reads as reduced-reads
 
--- src/lib.rt:222:13
 reduced-requires : tie.Need-reduced-requires
 reduced-requires c κs = search needs
 
--- src/lib.rt:220:9
 choose-requires : tie.Need-choose-requires
 choose-requires c κs = search needs
 
--- src/lib.rt:217:5
 returns : tie.Need-returns
 returns c = let s = c .before .before .before .before in
     let k : s .args .self .period < 2 ^ 64 = omega arith in

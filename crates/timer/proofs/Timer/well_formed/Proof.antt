@@ -7,15 +7,12 @@ use Rattle.timer.proofs.Timer.well_formed.Lts as lts
 use Rattle.timer.proofs.Timer.flags_fit.Reads as flags-fit-reads
 use Rattle.timer.proofs.Timer.narrow_fits.Reads as narrow-fits-reads
 
--- src/lib.rt:152:16
 narrow-fits-requires : tie.Need-narrow-fits-requires
 narrow-fits-requires c κs = search needs
 
--- src/lib.rt:152:67
 flags-fit-requires : tie.Need-flags-fit-requires
 flags-fit-requires c κs = search needs
 
--- src/lib.rt:147:5
 returns : tie.Need-returns
 unfolding timerFormed
 returns c = cc

@@ -10,35 +10,27 @@ use Rattle.timers.proofs.Timers.ran.Reads as ran-reads
 use Rattle.timers.proofs.Timers.refused.Reads as refused-reads
 use Rattle.timers.proofs.Timers.well_formed.Reads as well-formed-reads
 
--- src/lib.rt:371:13
 well-formed-requires : tie.Need-well-formed-requires
 well-formed-requires c κs = search needs
 
--- src/lib.rt:372:13
 refused-requires : tie.Need-refused-requires
 refused-requires c κs = search needs
 
--- src/lib.rt:372:13
 returns : tie.Need-returns
 returns c = c .refused .ensures ∙ sym (advance-refused _ _ (sym (c .before .before .well-formed .ensures) ∙ not-true _ (c .before .if1 .taken)))
 
--- src/lib.rt:374:13
 ran-requires : tie.Need-ran-requires
 ran-requires c κs = search needs
 
--- src/lib.rt:379:35
 array-read-t11 : tie.Need-array-read-t11
 array-read-t11 c = search needs
 
--- src/lib.rt:379:41
 array-read-t14 : tie.Need-array-read-t14
 array-read-t14 c = search needs
 
--- src/lib.rt:379:47
 array-read-t17 : tie.Need-array-read-t17
 array-read-t17 c = search needs
 
--- src/lib.rt:368:5
 returns-2 : tie.Need-returns-2
 returns-2 c = let e = c .before .before .before in
     let s = e .before .before .args in

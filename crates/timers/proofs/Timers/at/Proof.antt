@@ -8,25 +8,20 @@ use Rattle.timers.proofs.Timers.at.Reads as reads
 use Rattle.timers.proofs.Timers.at.Lts as lts
 use Rattle.timer.proofs.Timer.blank.Reads as blank-reads
 
--- src/lib.rt:90:13
 blank-requires : tie.Need-blank-requires
 blank-requires c κs = search needs
 
--- src/lib.rt:90:13
 returns : tie.Need-returns
 returns c = let s = c .before .before in
     let l : length (s .args .self .timer) ≡ 3 = simp length-map at (s .good .0 .1 .1 .1 .1 .0 .1 .0 .1) in
     c .blank .ensures ∙ sym (beyond (s .args .self .timer) (s .args .m) l (c .before .if1 .taken))
 
--- src/lib.rt:93:9
 mul-result : tie.Need-mul-result
 mul-result c = search needs
 
--- src/lib.rt:93:9
 array-copy-out-result : tie.Need-array-copy-out-result
 array-copy-out-result c = search needs
 
--- src/lib.rt:86:5
 returns-2 : tie.Need-returns-2
 returns-2 c = refl
 

@@ -7,43 +7,33 @@ use Rattle.timers.proofs.Timers.cleared.Lts as lts
 use Rattle.timer.proofs.bit.Reads as bit-reads
 use Rattle.timers.proofs.cleared_by.Reads as cleared-by-reads
 
--- src/lib.rt:243:18
 array-copy-out-t0 : tie.Need-array-copy-out-t0
 array-copy-out-t0 c = search needs
 
--- src/lib.rt:244:18
 array-copy-out-t1 : tie.Need-array-copy-out-t1
 array-copy-out-t1 c = search needs
 
--- src/lib.rt:245:18
 array-copy-out-t2 : tie.Need-array-copy-out-t2
 array-copy-out-t2 c = search needs
 
--- src/lib.rt:246:33
 bit-requires : tie.Need-bit-requires
 bit-requires c κs = search needs
 
--- src/lib.rt:246:13
 cleared-by-requires : tie.Need-cleared-by-requires
 cleared-by-requires c κs = search needs
 
--- src/lib.rt:247:33
 bit-requires-2 : tie.Need-bit-requires-2
 bit-requires-2 c κs = search needs
 
--- src/lib.rt:247:13
 cleared-by-requires-2 : tie.Need-cleared-by-requires-2
 cleared-by-requires-2 c κs = search needs
 
--- src/lib.rt:248:33
 bit-requires-3 : tie.Need-bit-requires-3
 bit-requires-3 c κs = search needs
 
--- src/lib.rt:248:13
 cleared-by-requires-3 : tie.Need-cleared-by-requires-3
 cleared-by-requires-3 c κs = search needs
 
--- src/lib.rt:239:5
 returns : tie.Need-returns
 returns c = let b2 = c .before in
     let c1 = b2 .before in

@@ -8,11 +8,9 @@ use Rattle.timers.proofs.Timers.counted.Reads as reads
 use Rattle.timers.proofs.Timers.counted.Lts as lts
 use Rattle.std.proofs.num.wrapping_add_u64.Reads as wrapping-add-u64-reads
 
--- src/lib.rt:115:9
 wrapping-add-u64-requires : tie.Need-wrapping-add-u64-requires
 wrapping-add-u64-requires c κs = search needs
 
--- src/lib.rt:111:5
 returns : tie.Need-returns
 unfolding countedOf
 returns c = ap (withCounter (c .before .args .self)) (c .wrapping-add-u64 .ensures)

@@ -6,31 +6,24 @@ use Rattle.timers.proofs.Timers.drives.Reads as reads
 use Rattle.timers.proofs.Timers.drives.Lts as lts
 use Rattle.timer.proofs.Timer.drives.Reads as drives-reads
 
--- src/lib.rt:140:18
 array-copy-out-t0 : tie.Need-array-copy-out-t0
 array-copy-out-t0 c = search needs
 
--- src/lib.rt:141:18
 array-copy-out-t1 : tie.Need-array-copy-out-t1
 array-copy-out-t1 c = search needs
 
--- src/lib.rt:142:18
 array-copy-out-t2 : tie.Need-array-copy-out-t2
 array-copy-out-t2 c = search needs
 
--- src/lib.rt:143:32
 drives-requires : tie.Need-drives-requires
 drives-requires c κs = search needs
 
--- src/lib.rt:143:50
 drives-requires-2 : tie.Need-drives-requires-2
 drives-requires-2 c κs = search needs
 
--- src/lib.rt:143:67
 drives-requires-3 : tie.Need-drives-requires-3
 drives-requires-3 c κs = search needs
 
--- src/lib.rt:136:5
 returns : tie.Need-returns
 unfolding drivesOf
 returns c = rw (c .before .before .drives .ensures, c .before .drives2 .ensures, c .drives3 .ensures)

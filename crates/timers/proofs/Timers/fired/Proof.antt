@@ -11,19 +11,15 @@ use Rattle.timer.proofs.Timer.fired.Reads as fired-reads
 use Rattle.timers.proofs.Timers.at.Reads as at-reads
 use Rattle.timers.proofs.Timers.with.Reads as with-reads
 
--- src/lib.rt:130:22
 at-requires : tie.Need-at-requires
 at-requires c κs = search needs
 
--- src/lib.rt:130:22
 fired-requires : tie.Need-fired-requires
 fired-requires c κs = search needs
 
--- src/lib.rt:130:9
 with-requires : tie.Need-with-requires
 with-requires c κs = search needs
 
--- src/lib.rt:127:5
 returns : tie.Need-returns
 unfolding firedOf
 returns c = let a = c .before .before .before .args in

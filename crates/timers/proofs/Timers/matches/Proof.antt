@@ -9,15 +9,12 @@ use Rattle.timers.proofs.Timers.matches.Lts as lts
 use Rattle.timer.proofs.Timer.matches.Reads as matches-reads
 use Rattle.timers.proofs.Timers.at.Reads as at-reads
 
--- src/lib.rt:123:9
 at-requires : tie.Need-at-requires
 at-requires c κs = search needs
 
--- src/lib.rt:123:9
 matches-requires : tie.Need-matches-requires
 matches-requires c κs = search needs
 
--- src/lib.rt:120:5
 returns : tie.Need-returns
 unfolding matchesOf
 returns c = c .matches .ensures ∙ ap (meets (c .before .before .args .self .counter)) (c .before .at .ensures)

@@ -9,15 +9,12 @@ use Rattle.timers.proofs.Timers.pulses.Lts as lts
 use Rattle.timer.proofs.Timer.pulses.Reads as pulses-reads
 use Rattle.timers.proofs.Timers.at.Reads as at-reads
 
--- src/lib.rt:150:9
 at-requires : tie.Need-at-requires
 at-requires c κs = search needs
 
--- src/lib.rt:150:9
 pulses-requires : tie.Need-pulses-requires
 pulses-requires c κs = search needs
 
--- src/lib.rt:147:5
 returns : tie.Need-returns
 unfolding pulsesOf
 returns c = c .pulses .ensures ∙ ap pulsing (c .before .at .ensures)

@@ -12,39 +12,30 @@ use Rattle.timers.proofs.Timers.ran.Lts as lts
 use Rattle.std.proofs.num.wrapping_add_u64.Reads as wrapping-add-u64-reads
 use Rattle.timer.proofs.Timer.ran.Reads as ran-reads
 
--- src/lib.rt:167:13
 returns : tie.Need-returns
 returns c = ran-off _ _ (ne-eqb _ _ (c .if1 .taken))
 
--- src/lib.rt:174:18
 array-copy-out-t0 : tie.Need-array-copy-out-t0
 array-copy-out-t0 c = search needs
 
--- src/lib.rt:175:18
 array-copy-out-t1 : tie.Need-array-copy-out-t1
 array-copy-out-t1 c = search needs
 
--- src/lib.rt:176:18
 array-copy-out-t2 : tie.Need-array-copy-out-t2
 array-copy-out-t2 c = search needs
 
--- src/lib.rt:177:13
 ran-requires : tie.Need-ran-requires
 ran-requires c κs = search needs
 
--- src/lib.rt:178:13
 ran-requires-2 : tie.Need-ran-requires-2
 ran-requires-2 c κs = search needs
 
--- src/lib.rt:179:13
 ran-requires-3 : tie.Need-ran-requires-3
 ran-requires-3 c κs = search needs
 
--- src/lib.rt:184:22
 wrapping-add-u64-requires : tie.Need-wrapping-add-u64-requires
 wrapping-add-u64-requires c κs = search needs
 
--- src/lib.rt:163:5
 returns-2 : tie.Need-returns-2
 returns-2 c = let r3 = c .before .before .before .before in
     let r2 = r3 .before in

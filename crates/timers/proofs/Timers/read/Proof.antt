@@ -10,23 +10,18 @@ use Rattle.timers.proofs.Timers.reading.Reads as reading-reads
 use Rattle.timers.proofs.Timers.refused.Reads as refused-reads
 use Rattle.timers.proofs.Timers.well_formed.Reads as well-formed-reads
 
--- src/lib.rt:353:13
 well-formed-requires : tie.Need-well-formed-requires
 well-formed-requires c κs = search needs
 
--- src/lib.rt:354:13
 refused-requires : tie.Need-refused-requires
 refused-requires c κs = search needs
 
--- src/lib.rt:354:13
 returns : tie.Need-returns
 returns c = c .refused .ensures ∙ sym (read-refused _ _ _ (sym (c .before .before .well-formed .ensures) ∙ not-true _ (c .before .if1 .taken)))
 
--- src/lib.rt:356:9
 reading-requires : tie.Need-reading-requires
 reading-requires c κs = search needs
 
--- src/lib.rt:350:5
 returns-2 : tie.Need-returns-2
 returns-2 c = c .reading .ensures ∙ sym (read-done _ _ _ (sym (c .before .before .well-formed .ensures) ∙ not-false _ (c .before .if1 .left)))
 

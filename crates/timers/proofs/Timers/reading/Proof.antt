@@ -13,32 +13,25 @@ use Rattle.timers.proofs.Timers.aligned.Reads as aligned-reads
 use Rattle.timers.proofs.Timers.refused.Reads as refused-reads
 use Rattle.timers.proofs.Timers.register.Reads as register-reads
 
--- src/lib.rt:321:13
 aligned-requires : tie.Need-aligned-requires
 aligned-requires c κs = search needs
 
--- src/lib.rt:322:13
 refused-requires : tie.Need-refused-requires
 refused-requires c κs = search needs
 
--- src/lib.rt:322:13
 returns : tie.Need-returns
 returns c = c .refused .ensures ∙ sym (reading-width _ _ _ (sym (c .before .before .aligned .ensures) ∙ not-true _ (c .before .if1 .taken)))
 
--- src/lib.rt:325:13
 refused-requires-2 : tie.Need-refused-requires-2
 refused-requires-2 c κs = search needs
 
--- src/lib.rt:325:13
 returns-2 : tie.Need-returns-2
 returns-2 c = let e = c .before .before in
     c .refused2 .ensures ∙ sym (reading-offset _ _ _ (sym (e .before .aligned .ensures) ∙ not-false _ (e .if1 .left)) (c .before .if2 .taken))
 
--- src/lib.rt:329:35
 register-requires : tie.Need-register-requires
 register-requires c κs = search needs
 
--- src/lib.rt:318:5
 returns-3 : tie.Need-returns-3
 returns-3 c = let e = c .before .before in
     ap (λ (x : ℕ). turn (e .before .before .args .self) (answer.Value x)) (c .register .ensures)

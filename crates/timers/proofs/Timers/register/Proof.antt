@@ -11,31 +11,24 @@ use Rattle.timers.proofs.Timers.at.Reads as at-reads
 use Rattle.timers.proofs.Timers.status.Reads as status-reads
 use Rattle.timers.proofs.timer_register.Reads as timer-register-reads
 
--- src/lib.rt:217:13
 returns : tie.Need-returns
 returns c = sym (read-capabilities _ _ (c .if1 .taken))
 
--- src/lib.rt:220:20
 cast-result : tie.Need-cast-result
 cast-result c = search needs
 
--- src/lib.rt:220:13
 returns-2 : tie.Need-returns-2
 returns-2 c = sym (read-enabled _ _ (c .before .if2 .taken))
 
--- src/lib.rt:223:13
 status-requires : tie.Need-status-requires
 status-requires c κs = search needs
 
--- src/lib.rt:223:13
 returns-3 : tie.Need-returns-3
 returns-3 c = c .status .ensures ∙ sym (read-status _ _ (c .before .if3 .taken))
 
--- src/lib.rt:226:13
 returns-4 : tie.Need-returns-4
 returns-4 c = sym (read-counter _ _ (c .if4 .taken))
 
--- src/lib.rt:229:13
 returns-5 : tie.Need-returns-5
 returns-5 c = let e4 = c .before in
     let e3 = e4 .before in
@@ -43,7 +36,6 @@ returns-5 c = let e4 = c .before in
     let e1 = e2 .before in
     sym (read-below _ _ (e2 .if2 .left) (e3 .if3 .left) (e4 .if4 .left) (e1 .if1 .left) (c .if5 .taken))
 
--- src/lib.rt:232:13
 returns-6 : tie.Need-returns-6
 returns-6 c = let e4 = c .before .before in
     let e3 = e4 .before in
@@ -51,15 +43,12 @@ returns-6 c = let e4 = c .before .before in
     let e1 = e2 .before in
     sym (read-above _ _ (e2 .if2 .left) (e3 .if3 .left) (e4 .if4 .left) (e1 .if1 .left) (c .if6 .taken))
 
--- src/lib.rt:235:24
 at-requires : tie.Need-at-requires
 at-requires c κs = search needs
 
--- src/lib.rt:235:9
 timer-register-requires : tie.Need-timer-register-requires
 timer-register-requires c κs = search needs
 
--- src/lib.rt:213:5
 returns-7 : tie.Need-returns-7
 returns-7 c = let e6 = c .before .before in
     let e5 = e6 .before in

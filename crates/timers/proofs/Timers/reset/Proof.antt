@@ -8,11 +8,9 @@ use Rattle.timers.proofs.Timers.reset.Reads as reads
 use Rattle.timers.proofs.Timers.reset.Lts as lts
 use Rattle.timer.proofs.Timer.reset.Reads as reset-reads
 
--- src/lib.rt:71:21
 reset-requires : tie.Need-reset-requires
 reset-requires c κs = search needs
 
--- src/lib.rt:65:5
 returns : tie.Need-returns
 unfolding resetTimers
 returns c = ap (λ (t : Timer). withTimers allZero (λ i. t)) (c .reset .ensures)

@@ -8,15 +8,12 @@ use Rattle.timers.proofs.Timers.route.Reads as reads
 use Rattle.timers.proofs.Timers.route.Lts as lts
 use Rattle.timers.proofs.Timers.at.Reads as at-reads
 
--- src/lib.rt:157:13
 at-requires : tie.Need-at-requires
 at-requires c κs = search needs
 
--- src/lib.rt:158:9
 cast-result : tie.Need-cast-result
 cast-result c = search needs
 
--- src/lib.rt:154:5
 returns : tie.Need-returns
 unfolding routeOf
 returns c = ap (λ (t : Timer). t .route) (c .before .at .ensures)

@@ -4,11 +4,9 @@ use Rattle.timers.proofs.Timers.set_counter.Tie as tie
 use Rattle.timers.proofs.Timers.set_counter.Reads as reads
 use Rattle.timers.proofs.Timers.set_counter.Lts as lts
 
--- src/lib.rt:261:13
 returns : tie.Need-returns
 returns c = rw (c .if1 .taken)
 
--- src/lib.rt:257:5
 returns-2 : tie.Need-returns-2
 returns-2 c = rw (ne-eqb _ _ (c .if1 .left))
 

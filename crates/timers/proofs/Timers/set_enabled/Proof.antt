@@ -7,15 +7,12 @@ use Rattle.timers.proofs.Timers.set_enabled.Reads as reads
 use Rattle.timers.proofs.Timers.set_enabled.Lts as lts
 use Rattle.timer.proofs.bit.Reads as bit-reads
 
--- src/lib.rt:273:24
 bit-requires : tie.Need-bit-requires
 bit-requires c κs = search needs
 
--- src/lib.rt:273:24
 cast-next : tie.Need-cast-next
 cast-next c = search needs
 
--- src/lib.rt:269:5
 returns : tie.Need-returns
 returns c = ap (withEnabled (c .before .args .self)) (c .bit .ensures)
 

@@ -6,31 +6,24 @@ use Rattle.timers.proofs.Timers.status.Reads as reads
 use Rattle.timers.proofs.Timers.status.Lts as lts
 use Rattle.timer.proofs.placed.Reads as placed-reads
 
--- src/lib.rt:206:18
 array-copy-out-t0 : tie.Need-array-copy-out-t0
 array-copy-out-t0 c = search needs
 
--- src/lib.rt:207:18
 array-copy-out-t1 : tie.Need-array-copy-out-t1
 array-copy-out-t1 c = search needs
 
--- src/lib.rt:208:18
 array-copy-out-t2 : tie.Need-array-copy-out-t2
 array-copy-out-t2 c = search needs
 
--- src/lib.rt:209:9
 placed-requires : tie.Need-placed-requires
 placed-requires c κs = search needs
 
--- src/lib.rt:209:40
 placed-requires-2 : tie.Need-placed-requires-2
 placed-requires-2 c κs = search needs
 
--- src/lib.rt:209:70
 placed-requires-3 : tie.Need-placed-requires-3
 placed-requires-3 c κs = search needs
 
--- src/lib.rt:202:5
 returns : tie.Need-returns
 returns c = status-code _ _ _ _ (c .before .before .placed .ensures) (c .before .placed2 .ensures) (c .placed3 .ensures)
 

@@ -6,31 +6,24 @@ use Rattle.timers.proofs.Timers.well_formed.Reads as reads
 use Rattle.timers.proofs.Timers.well_formed.Lts as lts
 use Rattle.timer.proofs.Timer.well_formed.Reads as well-formed-reads
 
--- src/lib.rt:79:18
 array-copy-out-t0 : tie.Need-array-copy-out-t0
 array-copy-out-t0 c = search needs
 
--- src/lib.rt:80:18
 array-copy-out-t1 : tie.Need-array-copy-out-t1
 array-copy-out-t1 c = search needs
 
--- src/lib.rt:81:18
 array-copy-out-t2 : tie.Need-array-copy-out-t2
 array-copy-out-t2 c = search needs
 
--- src/lib.rt:82:32
 well-formed-requires : tie.Need-well-formed-requires
 well-formed-requires c κs = search needs
 
--- src/lib.rt:82:52
 well-formed-requires-2 : tie.Need-well-formed-requires-2
 well-formed-requires-2 c κs = search needs
 
--- src/lib.rt:82:71
 well-formed-requires-3 : tie.Need-well-formed-requires-3
 well-formed-requires-3 c κs = search needs
 
--- src/lib.rt:75:5
 returns : tie.Need-returns
 unfolding wellFormed
 returns c = rw (c .before .before .well-formed .ensures, c .before .well-formed2 .ensures, c .well-formed3 .ensures)

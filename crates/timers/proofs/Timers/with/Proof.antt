@@ -7,21 +7,17 @@ use Rattle.timers.proofs.Timers.with.Tie as tie
 use Rattle.timers.proofs.Timers.with.Reads as reads
 use Rattle.timers.proofs.Timers.with.Lts as lts
 
--- src/lib.rt:101:13
 returns : tie.Need-returns
 returns c = let s = c .before in
     let l : length (s .args .self .timer) ≡ 3 = simp length-map at (s .good .0 .1 .1 .1 .1 .0 .1 .0 .1) in
     not-stored (s .args .self) (s .args .m) (s .args .t) l (c .if1 .taken)
 
--- src/lib.rt:104:9
 mul-t : tie.Need-mul-t
 mul-t c = search needs
 
--- src/lib.rt:104:9
 element-set-from-t : tie.Need-element-set-from-t
 element-set-from-t c = search needs
 
--- src/lib.rt:97:5
 returns-2 : tie.Need-returns-2
 returns-2 c = let s = c .before in
     let l : length (s .args .self .timer) ≡ 3 = simp length-map at (s .good .0 .1 .1 .1 .1 .0 .1 .0 .1) in

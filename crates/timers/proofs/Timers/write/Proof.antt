@@ -10,23 +10,18 @@ use Rattle.timers.proofs.Timers.refused.Reads as refused-reads
 use Rattle.timers.proofs.Timers.well_formed.Reads as well-formed-reads
 use Rattle.timers.proofs.Timers.writing.Reads as writing-reads
 
--- src/lib.rt:362:13
 well-formed-requires : tie.Need-well-formed-requires
 well-formed-requires c κs = search needs
 
--- src/lib.rt:363:13
 refused-requires : tie.Need-refused-requires
 refused-requires c κs = search needs
 
--- src/lib.rt:363:13
 returns : tie.Need-returns
 returns c = c .refused .ensures ∙ sym (write-refused _ _ _ _ (sym (c .before .before .well-formed .ensures) ∙ not-true _ (c .before .if1 .taken)))
 
--- src/lib.rt:365:9
 writing-requires : tie.Need-writing-requires
 writing-requires c κs = search needs
 
--- src/lib.rt:359:5
 returns-2 : tie.Need-returns-2
 returns-2 c = c .writing .ensures ∙ sym (write-done _ _ _ _ (sym (c .before .before .well-formed .ensures) ∙ not-false _ (c .before .if1 .left)))
 

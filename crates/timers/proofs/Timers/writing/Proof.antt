@@ -13,32 +13,25 @@ use Rattle.timers.proofs.Timers.aligned.Reads as aligned-reads
 use Rattle.timers.proofs.Timers.refused.Reads as refused-reads
 use Rattle.timers.proofs.Timers.written.Reads as written-reads
 
--- src/lib.rt:336:13
 aligned-requires : tie.Need-aligned-requires
 aligned-requires c κs = search needs
 
--- src/lib.rt:337:13
 refused-requires : tie.Need-refused-requires
 refused-requires c κs = search needs
 
--- src/lib.rt:337:13
 returns : tie.Need-returns
 returns c = c .refused .ensures ∙ sym (writing-width _ _ _ _ (sym (c .before .before .aligned .ensures) ∙ not-true _ (c .before .if1 .taken)))
 
--- src/lib.rt:340:13
 refused-requires-2 : tie.Need-refused-requires-2
 refused-requires-2 c κs = search needs
 
--- src/lib.rt:340:13
 returns-2 : tie.Need-returns-2
 returns-2 c = let e = c .before .before in
     c .refused2 .ensures ∙ sym (writing-offset _ _ _ _ (sym (e .before .aligned .ensures) ∙ not-false _ (e .if1 .left)) (c .before .if2 .taken))
 
--- src/lib.rt:343:21
 written-requires : tie.Need-written-requires
 written-requires c κs = search needs
 
--- src/lib.rt:333:5
 returns-3 : tie.Need-returns-3
 returns-3 c = let e = c .before .before in
     ap (λ (x : Timers). turn x answer.Done) (c .written .ensures)
