@@ -1,6 +1,6 @@
 -- One firing: the board stays well formed; a timer that has fired is still from then on, and a still timer's firing changes no pin.
 use Prim.Native.Nat.{ℕ, _<_}
-use mathlib.Core.Path.{_≡_, refl, sym, ap, _∙_}
+use mathlib.Core.Path.{_≡_, refl, sym, ap, subst, _∙_}
 use mathlib.Core.Bool.{Bool, true, false, cond, not, _&&_, _||_}
 use mathlib.Core.List.{List}
 use lib.Dec.{leb}
@@ -10,7 +10,7 @@ use Rattle.entries.specs.declared.Entries.{Entries}
 use Rattle.entries.specs.Table.{entriesOk, levelsOk, levelAt, wired, pulsed}
 use Rattle.entries.proofs.Sized.{Sized as EntriesSized, wired-sized}
 use Rattle.entries.proofs.Formed.{wired-ok}
-use Rattle.entries.proofs.Pulse.{settled, wired-same, wired-level, wired-settled, pulse-rests, pulse-settled, pulsed-settled, pulsed-ok, pulsed-sized, pulsed-level}
+use Rattle.entries.proofs.Pulse.{settled, wired-same, wired-level, wired-settled, pulse-rests, pulse-settled, pulsed-settled, pulsed-ok, pulsed-sized, pulsed-level, pulsed-is}
 use Rattle.controller.specs.declared.Controller.{Controller}
 use Rattle.controller.specs.State.{withEntries, wellFormed as controllerFormed}
 use Rattle.controller.specs.Steps.{rewired}
@@ -72,12 +72,16 @@ module _ (b : Board) (z : Formed b) (m : ℕ) (l : m < 3) where
   -- ---- the firing's two cases
 
   module _ (P : Controller → Type 0) where
-    by-cases : (pulsesOf s m ≡ true → P (pulsedAt c levels p)) → (pulsesOf s m ≡ false → P (rewired c (wiresOf o s′))) → P c′
+    by-cases : (pulsesOf s m ≡ true → P (withEntries c (pulsed (c .entries) levels p))) → (pulsesOf s m ≡ false → P (rewired c (wiresOf o s′))) → P c′
     unfolding effect
     by-cases f g = go (pulsesOf s m) refl
       where
+        -- a raise and a drop are the entries' pulse
+        pulse : pulsedAt c (wiresOf o s′) p ≡ withEntries c (pulsed (c .entries) (wiresOf o s′) p)
+        pulse = ap (withEntries c) (sym (pulsed-is (c .entries) (wiresOf o s′) p))
+
         go : (x : Bool) → pulsesOf s m ≡ x → P (cond x (pulsedAt c (wiresOf o s′) p) (rewired c (wiresOf o s′)))
-        go true e = rw (kept (pulses-risen s m e)) (f e)
+        go true e = subst P (sym (pulse ∙ ap (λ (l : List ℕ). withEntries c (pulsed (c .entries) l p)) (kept (pulses-risen s m e)))) (f e)
         go false e = g e
 
   -- ---- the board after it is well formed

@@ -2,9 +2,8 @@
 use Prim.Native.Nat.{ℕ, zero, suc, _+_}
 use mathlib.Core.Bool.{Bool, cond, _&&_}
 use mathlib.Core.List.{List}
-use Rattle.entries.specs.Table.{pulsed}
+use lib.ListN.{set}
 use Rattle.controller.specs.declared.Controller.{Controller}
-use Rattle.controller.specs.State.{withEntries}
 use Rattle.controller.specs.Steps.{rewired}
 use Rattle.timers.specs.declared.Timers.{Timers}
 use Rattle.timers.specs.State.{isEnabled}
@@ -15,7 +14,7 @@ use Rattle.board.specs.Wires.{wiresOf}
 
 -- the wire of pin p is raised from these levels and dropped again, two steps, with edges after each
 abbrev pub pulsedAt : Controller → List ℕ → ℕ → Controller
-pulsedAt c levels p = withEntries c (pulsed (c .entries) levels p)
+pulsedAt c levels p = rewired (rewired c (set levels p 1)) levels
 
 -- what the firing of timer m, after which the timers are s′, does to the pins: an edge timer with its interrupt enabled makes a pulse;
 -- otherwise its status may have moved a wire, one step

@@ -1,8 +1,5 @@
-use mathlib.Core.Path.{sym, ap, _∙_}
-use lib.ListN.{set}
-use Rattle.entries.proofs.Pulse.{pulsed-is}
+use mathlib.Core.Path.{ap, _∙_}
 use Rattle.controller.specs.declared.Controller.{Controller}
-use Rattle.controller.specs.State.{withEntries}
 use Rattle.controller.specs.Steps.{rewired}
 use borrow.Author.Needs.{needs}
 use Rattle.board.proofs.tick.pulsed.Statement.{statement}
@@ -29,10 +26,8 @@ returns : tie.Need-returns
 returns c =
     let d = c .before .before .before .args .c in
     let l = c .before .before .before .args .levels in
-    let p = c .before .before .before .args .pin in
     c .rewired2 .ensures
     ∙ ap (λ (x : Controller). rewired x l) (c .before .rewired .ensures ∙ ap (rewired d) (c .before .before .raised .ensures))
-    ∙ ap (withEntries d) (sym (pulsed-is (d .entries) l p))
 
 pub pulsed-spec : {M : Type 1} → statement M
 pulsed-spec = tie.close (tie.spec raised-requires rewired-requires rewired-requires-2 returns)
