@@ -1,14 +1,15 @@
 -- The advance: what its code cites.
 use Prim.Native.Nat.{ℕ, zero, suc, _+_, _-_, _<_, _≤_, zero-le}
 use mathlib.Core.Path.{_≡_, refl, sym, ap, ap₂, _∙_}
-use mathlib.Core.Bool.{Bool, true, false, cond}
+use mathlib.Core.Bool.{Bool, true, false, cond, _||_}
 use mathlib.Core.Logic.{_⊎_, inl, inr}
 use mathlib.Core.List.{List}
 use native.Mathlib.Omega.{arith}
-use lib.Dec.{leb, ltb}
+use lib.Dec.{eqb, leb, ltb}
 use lib.ListN.{getD}
-use borrow.Author.Tests.{leb-true, leb-false, lt-ltb, le-ltb, ltb-true}
+use borrow.Author.Tests.{eq-eqb, leb-true, leb-false, lt-ltb, le-ltb, ltb-true}
 use mir.Val.{boolByte}
+use Rattle.pins.proofs.Bools.{clash}
 use Rattle.answers.specs.declared.Answer.the-variants as answer
 use Rattle.controller.specs.declared.Controller.{Controller}
 use Rattle.timers.specs.declared.Timers.{Timers}
@@ -16,12 +17,13 @@ use Rattle.timers.specs.declared.Ran.{Ran}
 use Rattle.timers.specs.State.{three}
 use Rattle.timers.specs.Tick.{ticks as timersTicks, firings as timersFirings, first, ranOf}
 use Rattle.timers.proofs.Turns.{ran-timers, ran-fired}
+use Rattle.timers.proofs.First.{first-le}
 use Rattle.board.specs.declared.Board.{Board}
 use Rattle.board.specs.State.{board, turn}
 use Rattle.board.specs.Formed.{wellFormed}
 use Rattle.board.specs.Tick.{tick, ticks, firings}
 use Rattle.board.specs.Step.{advancingOf}
-use Rattle.board.specs.Next.{soonerOf, nextOf}
+use Rattle.board.specs.Next.{soonerOf, nextOf, dueOf}
 use Rattle.board.proofs.Formed.{Formed, formed-out}
 use Rattle.board.proofs.Ticks.{ticks-formed, ticks-timers, ticks-outside, ticks-firings, jump}
 
@@ -172,3 +174,40 @@ answered b z n c x ec ex = λ i. turn (whole i) (answer.Fired (count 0 (omega ar
 
     count : (m : ℕ) → m < 3 → getD (x .fired) m 0 ≡ firings m n b
     count m l = ap (λ (y : Ran). getD (y .fired) m 0) ex ∙ ran-fired (b .timers) n m l ∙ sym (ticks-firings b z m n)
+
+-- ---- the loop ends early: where no timer fires first at the next tick to take, none does any more
+
+not-due : (f : List ℕ) (r : ℕ) → dueOf f r ≡ false → (m : ℕ) → m < 3 → getD f m 0 ≡ r → ⊥
+unfolding dueOf
+not-due f r d m l e = go (eqb (getD f 0 0) r) refl (eqb (getD f 1 0) r) refl (eqb (getD f 2 0) r) refl d m l e
+  where
+    no : (m : ℕ) → eqb (getD f m 0) r ≡ false → getD f m 0 ≡ r → ⊥
+    no m q e = clash (sym (eq-eqb (getD f m 0) r e) ∙ q)
+
+    go :
+        (x : Bool) → eqb (getD f 0 0) r ≡ x → (y : Bool) → eqb (getD f 1 0) r ≡ y → (w : Bool) → eqb (getD f 2 0) r ≡ w →
+        (x || (y || w)) ≡ false → (m : ℕ) → m < 3 → getD f m 0 ≡ r → ⊥
+    go true p y q w s d m l e = clash d
+    go false p true q w s d m l e = clash d
+    go false p false q true s d m l e = clash d
+    go false p false q false s d zero l e = no 0 p e
+    go false p false q false s d (suc zero) l e = no 1 q e
+    go false p false q false s d (suc (suc zero)) l e = no 2 s e
+    go false p false q false s d (suc (suc (suc m))) l e = absurd (omega arith)
+
+module _ (b : Board) (z : Formed b) (n a r : ℕ) (f : List ℕ) (e : f ≡ three (λ m. first m n (b .timers))) (h : Next f a n r) (d : dueOf f r ≡ false) where
+  all-past : (m : ℕ) → m < 3 → first m n (b .timers) ≤ a
+  all-past m l = go (h .none m l) (h .one)
+    where
+      is : getD f m 0 ≡ first m n (b .timers)
+      is = ap (λ (x : List ℕ). getD x m 0) e ∙ at-three (λ m. first m n (b .timers)) m l
+
+      go : getD f m 0 ≤ a ⊎ r ≤ getD f m 0 → r ≡ n ⊎ ((r ≡ getD f 0 0) ⊎ ((r ≡ getD f 1 0) ⊎ (r ≡ getD f 2 0))) → first m n (b .timers) ≤ a
+      go (inl q) o = rw is at q
+      go (inr q) (inl o) = absurd (not-due f r d m l (omega (arith, is, first-le m n (b .timers))))
+      go (inr q) (inr (inl o)) = absurd (not-due f r d 0 (omega arith) (sym o))
+      go (inr q) (inr (inr (inl o))) = absurd (not-due f r d 1 (omega arith) (sym o))
+      go (inr q) (inr (inr (inr o))) = absurd (not-due f r d 2 (omega arith) (sym o))
+
+  pub nothing-more : (c : Controller) → c ≡ ticks a b .controller → c ≡ ticks n b .controller
+  nothing-more c ec = ec ∙ sym (ap (λ (x : Board). x .controller) (jump b z a n n (omega (arith, h .above, h .within)) (omega arith) (λ m l. inl (all-past m l))))

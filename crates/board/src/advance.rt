@@ -8,7 +8,7 @@ ghost use Rattle.board.specs.Formed.{wellFormed};
 ghost use Rattle.board.specs.Tick.{ticks};
 ghost use Rattle.board.specs.declared.Call.the-variants as call;
 ghost use Rattle.board.specs.Step.{advancingOf, turnOf};
-ghost use Rattle.board.specs.Next.{soonerOf, nextOf};
+ghost use Rattle.board.specs.Next.{soonerOf, nextOf, dueOf};
 use crate::Board;
 use crate::Turn;
 use answers::Answer;
@@ -33,6 +33,13 @@ fn next(f: [u32; 3], at: u32, n: u32) -> u32
     sooner(f[0], at, sooner(f[1], at, sooner(f[2], at, n)))
 }
 
+// Some timer fires first at the tick.
+fn due(f: [u32; 3], tick: u32) -> bool
+    ensures { λ r. ⌜ r ≡ dueOf f tick ⌝ }
+{
+    (f[0] == tick) | ((f[1] == tick) | (f[2] == tick))
+}
+
 impl Board {
     // The pins after n ticks.
     fn pins(self, firsts: [u32; 3], n: u32) -> Controller
@@ -46,6 +53,9 @@ impl Board {
         let mut at: u32 = 0;
         while at < n {
             let to = next(firsts, at, n);
+            if !due(firsts, to) {
+                return c;
+            }
             let before = s.ran(to - 1);
             let timers = before.timers;
             let b = Board {

@@ -1,6 +1,6 @@
 -- What holds at every pin: from the test to each pin, and back.
-use mathlib.Core.Path.{_≡_, refl}
-use mathlib.Core.Bool.{Bool, true}
+use mathlib.Core.Path.{_≡_, refl, ap₂}
+use mathlib.Core.Bool.{Bool, true, _&&_}
 use Prim.Native.Nat.{ℕ, zero, suc, _+_, _<_, zero-le, suc-le-suc}
 use native.Mathlib.Nat.{not-suc-le-zero, le-of-suc-le-suc, add-zero, add-suc, suc-add, zero-add}
 use Rattle.pins.specs.Pins.{allFrom, every}
@@ -25,3 +25,14 @@ module _ (p : ℕ → Bool) where
 
   pub every-of : ((i : ℕ) → i < 24 → p i ≡ true) → every p ≡ true
   every-of h = all-of 0 24 (λ i l. rw zero-add (h i l))
+
+-- tests that agree at every pin
+all-cong : (p q : ℕ → Bool) (at n : ℕ) → ((i : ℕ) → i < n → p (at + i) ≡ q (at + i)) → allFrom p at n ≡ allFrom q at n
+unfolding allFrom
+all-cong p q at zero h = refl
+all-cong p q at (suc n) h =
+    ap₂ _&&_ (rw add-zero at (h 0 (suc-le-suc zero-le)))
+    (all-cong p q (suc at) n (λ i l. rw (add-suc at i, ← (suc-add at i)) at (h (suc i) (suc-le-suc l))))
+
+pub every-cong : (p q : ℕ → Bool) → ((i : ℕ) → i < 24 → p i ≡ q i) → every p ≡ every q
+every-cong p q h = all-cong p q 0 24 (λ i l. rw zero-add (h i l))

@@ -33,3 +33,4 @@ pub mod Numbers
 pub mod Sheet
 pub mod Demands
 pub mod Decided
+pub mod Driven

@@ -1,12 +1,13 @@
 use Prim.Native.Nat.{ℕ, _≤_, _<_, _-_}
 use mathlib.Core.Path.{_≡_, refl, sym, ap, subst, _∙_}
 use borrow.Author.Needs.{needs}
+use borrow.Author.Tests.{not-true}
 use lib.ListN.{length}
 use Rattle.board.specs.declared.Board.{Board}
 use Rattle.board.specs.State.{board}
 use Rattle.board.specs.Tick.{ticks}
 use Rattle.board.proofs.Formed.{Formed, formed-in}
-use Rattle.board.proofs.Jumps.{Next, next-is, left, left-less, before-tick, after-tick}
+use Rattle.board.proofs.Jumps.{Next, next-is, left, left-less, before-tick, after-tick, nothing-more}
 use native.Mathlib.Omega.{arith}
 use Rattle.board.proofs.Board.pins.Statement.{statement}
 use Rattle.board.proofs.Board.pins.Tie as tie
@@ -44,7 +45,7 @@ goes c =
     (next-is _ _ _ (c .before .loop-test .taken))
 
 abbrev n : tie.After-timers Inv-loop μ-loop → tie.After-next Inv-loop μ-loop
-n c = c .before .before
+n c = c .before .before .before .before
 
 abbrev a : tie.After-timers Inv-loop μ-loop → tie.At-loop Inv-loop μ-loop
 a c = n c .before .before
@@ -65,9 +66,19 @@ loop-holds c = (omega arith, refl)
 next-requires : tie.Need-next-requires Inv-loop μ-loop
 next-requires c κs = tt
 
+due-requires : tie.Need-due-requires Inv-loop μ-loop
+due-requires c κs = tt
+
+returns : tie.Need-returns Inv-loop μ-loop
+returns c =
+    let x = c .before .before in
+    let a = x .before .before in
+    nothing-more (self a) (formed (start a)) (start a .args .n) (a .loop .at) (x .next .result) (start a .args .firsts) (start a .pre .1) (goes x)
+    (sym (c .before .due .ensures) ∙ not-true _ (c .if1 .taken)) (a .loop .c) (a .loop .inv .1)
+
 -- src/advance.rt:49:32
 sub-ran : tie.Need-sub-ran Inv-loop μ-loop
-sub-ran c = omega (arith, goes c .above)
+sub-ran c = omega (arith, goes (c .before .before) .above)
 
 -- src/advance.rt:49:17
 ran-requires : tie.Need-ran-requires Inv-loop μ-loop
@@ -79,18 +90,18 @@ tick-requires c κs = tt
 
 -- src/advance.rt:47:9
 loop-less : tie.Need-loop-less Inv-loop μ-loop
-loop-less c = left-less _ _ _ _ (goes (c .before .before .before .before))
+loop-less c = left-less _ _ _ _ (goes (c .before .before .before .before .before .before))
 
 -- src/advance.rt:47:9
 loop-again : tie.Need-loop-again Inv-loop μ-loop
 loop-again c =
     let t = c .before in
-    let g = goes (t .before .before .before) in
+    let g = goes (t .before .before .before .before .before) in
     (g .within, after-tick (self (a (t .before))) (formed (start (a (t .before)))) _ _ _ _ (start (a (t .before)) .pre .1) g _ (t .tick .result) (before (t .before)) (t .tick .ensures))
 
 -- src/advance.rt:38:5
-returns : tie.Need-returns Inv-loop μ-loop
-returns c =
+returns-2 : tie.Need-returns-2 Inv-loop μ-loop
+returns-2 c =
     let full : c .before .loop .at ≡ c .before .before .before .before .before .args .n = omega arith in
     c .before .loop .inv .1 ∙ ap (λ (k : ℕ). ticks k (self (c .before)) .controller) full
 
@@ -102,9 +113,11 @@ pins-spec =
     μ-loop
     loop-holds
     next-requires
+    due-requires
+    returns
     sub-ran
     ran-requires
     tick-requires
     loop-less
     loop-again
-    returns)
+    returns-2)
