@@ -2,7 +2,7 @@
 ghost use mathlib.Core.Path.{_≡_};
 ghost use Rattle.board.specs.declared.Call.the-variants as call;
 ghost use Rattle.board.specs.Step.{turnOf};
-ghost use Rattle.monitor.specs.Lent.{outOf, resetOut};
+ghost use Rattle.monitor.specs.Lent.{outOf, resetTurn};
 use crate::Out;
 use answers::Answer;
 use board::Board;
@@ -20,7 +20,7 @@ fn out(turn: Turn) -> Out
 }
 
 pub fn reset(_b: Board) -> Out
-    ensures { λ r. ⌜ r ≡ resetOut ⌝ }
+    ensures { λ r. ⌜ r ≡ outOf resetTurn ⌝ }
 {
     Out {
         board: Board::reset(),

@@ -2,11 +2,9 @@
 // as numbers. Every byte pattern of the lent memory is a board: one that is not well formed gets 5 and stays as it is.
 mod calls;
 
-ghost use mathlib.Core.Path.{_≡_};
-ghost use Rattle.answers.specs.declared.Answer.the-variants as answer;
-ghost use Rattle.answers.specs.Numbers.{numbersOf};
 ghost use Rattle.board.specs.declared.Call.the-variants as call;
-ghost use Rattle.board.specs.Step.{turnOf, resetBoard};
+ghost use Rattle.board.specs.Step.{turnOf};
+ghost use Rattle.monitor.specs.Lent.{Gives, resetTurn};
 use answers::Numbers;
 use board::Board;
 
@@ -18,7 +16,7 @@ pub struct Out {
 // Whatever was there.
 #[no_mangle]
 pub extern "C" fn nataqvoju_reset(b: &mut Board) -> Numbers
-    ensures { λ r. ⌜ (now (b .exit) ≡ resetBoard) × (r ≡ numbersOf answer.Done) ⌝ }
+    ensures { λ r. ⌜ Gives resetTurn (now (b .exit)) r ⌝ }
 {
     let s = *b;
     let o = calls::reset(s);
@@ -28,7 +26,7 @@ pub extern "C" fn nataqvoju_reset(b: &mut Board) -> Numbers
 
 #[no_mangle]
 pub extern "C" fn nataqvoju_read(b: &mut Board, window: u64, width: u64, offset: u64) -> Numbers
-    ensures { λ r. ⌜ (now (b .exit) ≡ turnOf (now (b .entry)) (call.Read window width offset) .board) × (r ≡ numbersOf (turnOf (now (b .entry)) (call.Read window width offset) .answer)) ⌝ }
+    ensures { λ r. ⌜ Gives (turnOf (now (b .entry)) (call.Read window width offset)) (now (b .exit)) r ⌝ }
 {
     let s = *b;
     let o = calls::read(s, window, width, offset);
@@ -44,7 +42,7 @@ pub extern "C" fn nataqvoju_write(
     offset: u64,
     value: u64,
 ) -> Numbers
-    ensures { λ r. ⌜ (now (b .exit) ≡ turnOf (now (b .entry)) (call.Write window width offset value) .board) × (r ≡ numbersOf (turnOf (now (b .entry)) (call.Write window width offset value) .answer)) ⌝ }
+    ensures { λ r. ⌜ Gives (turnOf (now (b .entry)) (call.Write window width offset value)) (now (b .exit)) r ⌝ }
 {
     let s = *b;
     let o = calls::write(s, window, width, offset, value);
@@ -54,7 +52,7 @@ pub extern "C" fn nataqvoju_write(
 
 #[no_mangle]
 pub extern "C" fn nataqvoju_wire(b: &mut Board, pin: u64, level: u64) -> Numbers
-    ensures { λ r. ⌜ (now (b .exit) ≡ turnOf (now (b .entry)) (call.Wire pin level) .board) × (r ≡ numbersOf (turnOf (now (b .entry)) (call.Wire pin level) .answer)) ⌝ }
+    ensures { λ r. ⌜ Gives (turnOf (now (b .entry)) (call.Wire pin level)) (now (b .exit)) r ⌝ }
 {
     let s = *b;
     let o = calls::wire(s, pin, level);
@@ -64,7 +62,7 @@ pub extern "C" fn nataqvoju_wire(b: &mut Board, pin: u64, level: u64) -> Numbers
 
 #[no_mangle]
 pub extern "C" fn nataqvoju_end(b: &mut Board, vector: u8) -> Numbers
-    ensures { λ r. ⌜ (now (b .exit) ≡ turnOf (now (b .entry)) (call.End vector) .board) × (r ≡ numbersOf (turnOf (now (b .entry)) (call.End vector) .answer)) ⌝ }
+    ensures { λ r. ⌜ Gives (turnOf (now (b .entry)) (call.End vector)) (now (b .exit)) r ⌝ }
 {
     let s = *b;
     let o = calls::end(s, vector);
@@ -74,7 +72,7 @@ pub extern "C" fn nataqvoju_end(b: &mut Board, vector: u8) -> Numbers
 
 #[no_mangle]
 pub extern "C" fn nataqvoju_advance(b: &mut Board, ticks: u32) -> Numbers
-    ensures { λ r. ⌜ (now (b .exit) ≡ turnOf (now (b .entry)) (call.Advance ticks) .board) × (r ≡ numbersOf (turnOf (now (b .entry)) (call.Advance ticks) .answer)) ⌝ }
+    ensures { λ r. ⌜ Gives (turnOf (now (b .entry)) (call.Advance ticks)) (now (b .exit)) r ⌝ }
 {
     let s = *b;
     let o = calls::advance(s, ticks);
@@ -84,7 +82,7 @@ pub extern "C" fn nataqvoju_advance(b: &mut Board, ticks: u32) -> Numbers
 
 #[no_mangle]
 pub extern "C" fn nataqvoju_deliver(b: &mut Board) -> Numbers
-    ensures { λ r. ⌜ (now (b .exit) ≡ turnOf (now (b .entry)) call.Deliver .board) × (r ≡ numbersOf (turnOf (now (b .entry)) call.Deliver .answer)) ⌝ }
+    ensures { λ r. ⌜ Gives (turnOf (now (b .entry)) call.Deliver) (now (b .exit)) r ⌝ }
 {
     let s = *b;
     let o = calls::deliver(s);

@@ -37,7 +37,7 @@ use denote.Triple.Table.{entered, cited}
 use denote.Triple.Walked.{says, Stays, stay-ref, stay-none, walkOf, AllGo, goes-none, goes-ref, Walks, ends-at, walked, walk-meets}
 use denote.Triple.Clauses.{ensured, lasts}
 use denote.Exit.{yes}
-use Rattle.monitor.specs.Lent.{resetOut}
+use Rattle.monitor.specs.Lent.{outOf, resetTurn}
 use Rattle.board.specs.declared.Board.{Board}
 use Rattle.monitor.specs.declared.Out.{Out}
 use Rattle.board.proofs.Board as T
@@ -74,7 +74,7 @@ module _ {M : Type 1} (𝓤 : URA M) (H : Heap 𝓤) (A : Atoms 𝓤) (W : Given
   mach d = LL.val T.the-type T′.the-laws d
 
   abbrev Said : Out → Type 0
-  Said r = r ≡ resetOut
+  Said r = r ≡ outOf resetTurn
 
   abbrev Post : Val → SProp 𝓤
   Post = walkOf 𝓤 H A f.ended stayed (f.clauses 𝓤 H A at-mem run) .post (((κ, tt), (q, tt), tt, x, at), tt)

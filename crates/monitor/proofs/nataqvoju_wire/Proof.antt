@@ -39,7 +39,6 @@ use denote.Triple.Table.{entered, cited}
 use denote.Triple.Walked.{says, Stays, stay-ref, stay-none, walkOf, AllGo, goes-none, goes-ref, Walks, ends-at, walked, walk-meets}
 use denote.Triple.Clauses.{ensured, lasts}
 use denote.Exit.{yes}
-use Rattle.answers.specs.Numbers.{numbersOf}
 use Rattle.board.specs.declared.Call.the-variants as call
 use Rattle.board.specs.Step.{turnOf}
 use Rattle.monitor.specs.Lent.{outOf}
