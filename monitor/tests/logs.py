@@ -6,7 +6,15 @@ import struct
 import sys
 
 folder, count = sys.argv[1], int(sys.argv[2])
-ENTRIES, MARK = range(0x10, 0x40), b"\x7e\xb5"
+ENTRIES, VECTORS, MARK = range(0x10, 0x40), range(0x20, 0x30), b"\x7e\xb5"
+
+
+def entry_word(r, index):
+    """A value for a low word, mostly one that makes its pin eligible sooner or later, or for a high word."""
+    if index % 2:
+        return r.randrange(256) << 24
+    mode, masked = r.choice((0, 0, 0, r.randrange(8))), r.choice((0, 0, 0, 1))
+    return r.choice(VECTORS) | mode << 8 | r.randrange(2) << 11 | r.randrange(2) << 13 | r.randrange(2) << 15 | masked << 16
 
 
 def write(window, width, offset, value):
@@ -21,13 +29,14 @@ def records(r):
     """A few records that belong together."""
     kind = r.randrange(10)
     if kind == 0:
-        return write(0, 4, 0, r.choice(ENTRIES)) + write(0, 4, 0x10, r.getrandbits(17) & ~(r.choice((0, 7)) << 8) & ~(r.choice((0, 1)) << 16))
+        index = r.choice(ENTRIES)
+        return write(0, 4, 0, index) + write(0, 4, 0x10, entry_word(r, index))
     if kind == 1:
         return write(0, 4, 0, r.choice((0, 1, 2, *ENTRIES))) + read(0, 4, 0x10)
     if kind == 2:
         return MARK + bytes((3, r.randrange(24), r.randrange(2)))
     if kind == 3:
-        return MARK + bytes((4, r.randrange(256)))
+        return MARK + bytes((4, r.choice(VECTORS)))
     if kind == 4:
         return MARK + struct.pack("<BI", 5, r.choice((0, 1, 2, 5, 40, r.getrandbits(16), r.getrandbits(32), 2**32 - 1)))
     if kind == 5:
