@@ -15,9 +15,9 @@
  *   - the board after a call, and the numbers that come back, are exactly those of the board's own call by value;
  *   - a refused call leaves every byte of the board as it was, and gives value 0, counts 0 and no delivery;
  *   - memory that is not a well-formed board is answered with 5 by every call but a reset, which takes any memory;
- *   - every call turns a well-formed board into one, ends, and reads and writes no other memory of the caller's;
- *   - an advance takes about the same time for 1 tick and for 4,294,967,295.
- * What is not promised, and is the caller's to see to:
+ *   - every call turns a well-formed board into one, ends, and reads and writes no other memory of the caller's.
+ * What is measured and not proved: how long a call takes (docs/BENCHMARKS.md). No call walks ticks or firings one by one.
+ * What is the caller's to see to:
  *   - `board` is not null, is aligned to 8 bytes and points to 288 bytes that may be read and written;
  *   - nothing else reads or writes those bytes during a call: one caller at a time for each board (different boards are
  *     independent, and may be used by different threads at once). The caller's own lock, if it needs one, goes around the call;
