@@ -1,0 +1,24 @@
+use mathlib.Core.Path.{ap, _∙_}
+use Rattle.monitor.specs.Lent.{outOf}
+use borrow.Author.Needs.{needs}
+use Rattle.monitor.proofs.calls.deliver.Statement.{statement}
+use Rattle.monitor.proofs.calls.deliver.Tie as tie
+use Rattle.monitor.proofs.calls.deliver.Reads as reads
+use Rattle.monitor.proofs.calls.deliver.Lts as lts
+use Rattle.board.proofs.Board.deliver.Reads as deliver-reads
+use Rattle.monitor.proofs.calls.out.Reads as out-reads
+
+-- src/calls.rt:64:9
+deliver-requires : tie.Need-deliver-requires
+deliver-requires c κs = search needs
+
+-- src/calls.rt:64:5
+out-requires : tie.Need-out-requires
+out-requires c κs = search needs
+
+-- src/calls.rt:61:1
+returns : tie.Need-returns
+returns c = c .out .ensures ∙ ap outOf (c .before .deliver .ensures)
+
+pub deliver-spec : {M : Type 1} → statement M
+deliver-spec = tie.close (tie.spec deliver-requires out-requires returns)

@@ -1,0 +1,24 @@
+use mathlib.Core.Path.{ap, _∙_}
+use Rattle.monitor.specs.Lent.{outOf}
+use borrow.Author.Needs.{needs}
+use Rattle.monitor.proofs.calls.end.Statement.{statement}
+use Rattle.monitor.proofs.calls.end.Tie as tie
+use Rattle.monitor.proofs.calls.end.Reads as reads
+use Rattle.monitor.proofs.calls.end.Lts as lts
+use Rattle.board.proofs.Board.end.Reads as end-reads
+use Rattle.monitor.proofs.calls.out.Reads as out-reads
+
+-- src/calls.rt:52:9
+end-requires : tie.Need-end-requires
+end-requires c κs = search needs
+
+-- src/calls.rt:52:5
+out-requires : tie.Need-out-requires
+out-requires c κs = search needs
+
+-- src/calls.rt:49:1
+returns : tie.Need-returns
+returns c = c .out .ensures ∙ ap outOf (c .before .end .ensures)
+
+pub end-spec : {M : Type 1} → statement M
+end-spec = tie.close (tie.spec end-requires out-requires returns)

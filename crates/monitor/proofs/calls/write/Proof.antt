@@ -1,0 +1,24 @@
+use mathlib.Core.Path.{ap, _∙_}
+use Rattle.monitor.specs.Lent.{outOf}
+use borrow.Author.Needs.{needs}
+use Rattle.monitor.proofs.calls.write.Statement.{statement}
+use Rattle.monitor.proofs.calls.write.Tie as tie
+use Rattle.monitor.proofs.calls.write.Reads as reads
+use Rattle.monitor.proofs.calls.write.Lts as lts
+use Rattle.board.proofs.Board.write.Reads as write-reads
+use Rattle.monitor.proofs.calls.out.Reads as out-reads
+
+-- src/calls.rt:40:9
+write-requires : tie.Need-write-requires
+write-requires c κs = search needs
+
+-- src/calls.rt:40:5
+out-requires : tie.Need-out-requires
+out-requires c κs = search needs
+
+-- src/calls.rt:37:1
+returns : tie.Need-returns
+returns c = c .out .ensures ∙ ap outOf (c .before .write .ensures)
+
+pub write-spec : {M : Type 1} → statement M
+write-spec = tie.close (tie.spec write-requires out-requires returns)

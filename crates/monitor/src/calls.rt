@@ -1,0 +1,65 @@
+// The board's calls by value, with the answer as numbers.
+ghost use mathlib.Core.Path.{_≡_};
+ghost use Rattle.board.specs.declared.Call.the-variants as call;
+ghost use Rattle.board.specs.Step.{turnOf};
+ghost use Rattle.monitor.specs.Lent.{outOf, resetTurn};
+use crate::Out;
+use answers::Answer;
+use board::Board;
+use board::Turn;
+
+fn out(turn: Turn) -> Out
+    ensures { λ r. ⌜ r ≡ outOf turn ⌝ }
+{
+    let board = turn.board;
+    let answer = turn.answer;
+    Out {
+        board,
+        numbers: answer.numbers(),
+    }
+}
+
+pub fn reset(_b: Board) -> Out
+    ensures { λ r. ⌜ r ≡ outOf resetTurn ⌝ }
+{
+    Out {
+        board: Board::reset(),
+        numbers: Answer::Done.numbers(),
+    }
+}
+
+pub fn read(b: Board, window: u64, width: u64, offset: u64) -> Out
+    ensures { λ r. ⌜ r ≡ outOf (turnOf b (call.Read window width offset)) ⌝ }
+{
+    out(b.read(window, width, offset))
+}
+
+pub fn write(b: Board, window: u64, width: u64, offset: u64, value: u64) -> Out
+    ensures { λ r. ⌜ r ≡ outOf (turnOf b (call.Write window width offset value)) ⌝ }
+{
+    out(b.write(window, width, offset, value))
+}
+
+pub fn wire(b: Board, pin: u64, level: u64) -> Out
+    ensures { λ r. ⌜ r ≡ outOf (turnOf b (call.Wire pin level)) ⌝ }
+{
+    out(b.wire(pin, level))
+}
+
+pub fn end(b: Board, vector: u8) -> Out
+    ensures { λ r. ⌜ r ≡ outOf (turnOf b (call.End vector)) ⌝ }
+{
+    out(b.end(vector))
+}
+
+pub fn advance(b: Board, ticks: u32) -> Out
+    ensures { λ r. ⌜ r ≡ outOf (turnOf b (call.Advance ticks)) ⌝ }
+{
+    out(b.advance(ticks))
+}
+
+pub fn deliver(b: Board) -> Out
+    ensures { λ r. ⌜ r ≡ outOf (turnOf b call.Deliver) ⌝ }
+{
+    out(b.deliver())
+}

@@ -1,0 +1,215 @@
+/* nataqvoju.h: the board, for a monitor that keeps it in its own memory.
+ *
+ * The board is an Intel 82093AA interrupt controller (24 pins), an HPET timer block (three timers) and the wires between
+ * them. The monitor owns a NataqvojuBoard, lends it to a call by its address, and the call changes it where it lies.
+ * There is no other state: nothing is allocated, nothing is kept between calls, no file, clock or lock is touched.
+ *
+ *     NataqvojuBoard board;
+ *     nataqvoju_reset(&board);
+ *     nataqvoju_write(&board, NATAQVOJU_CONTROLLER, 4, NATAQVOJU_INDEX, 0x10);
+ *     nataqvoju_write(&board, NATAQVOJU_CONTROLLER, 4, NATAQVOJU_DATA, 0x20);
+ *     nataqvoju_wire(&board, 0, 1);
+ *     NataqvojuNumbers n = nataqvoju_deliver(&board);       n.delivered == 1, n.pin == 0, n.vector == 0x20
+ *
+ * What is promised (proved, for every argument and for every byte pattern of the 288 bytes):
+ *   - the board after a call, and the numbers that come back, are exactly those of the board's own call by value;
+ *   - a refused call leaves every byte of the board as it was, and gives value 0, counts 0 and no delivery;
+ *   - memory that is not a well-formed board is answered with 5 by every call but a reset, which takes any memory;
+ *   - every call turns a well-formed board into one, ends, and reads and writes no other memory of the caller's.
+ * What is measured and not proved: how long a call takes (docs/BENCHMARKS.md). No call walks ticks or firings one by one.
+ * What is the caller's to see to:
+ *   - `board` is not null, is aligned to 8 bytes and points to 288 bytes that may be read and written;
+ *   - nothing else reads or writes those bytes during a call: one caller at a time for each board (different boards are
+ *     independent, and may be used by different threads at once). The caller's own lock, if it needs one, goes around the call;
+ *   - these declarations, and the C compiler that reads them, follow the platform's C calling convention (x86-64 System V).
+ *
+ * Layout: no byte is padding, every field is an unsigned number, little-endian as the machine is. So a board is saved,
+ * compared, sent and restored as 288 plain bytes. docs/MONITOR.md has the rest.
+ */
+#ifndef NATAQVOJU_H
+#define NATAQVOJU_H
+
+#include <stddef.h>
+#include <stdint.h>
+
+#ifdef __cplusplus
+extern "C" {
+#endif
+
+/* ---- the state: 288 bytes, alignment 8 ---- */
+
+/* One timer. Flags are 0 or 1. */
+typedef struct {
+    uint64_t comparator;     /* below 2^32 in 32-bit mode */
+    uint64_t period;         /* below 2^32 in 32-bit mode */
+    uint16_t route;          /* the pin that it is routed to, at most 23 */
+    uint8_t level_type;      /* bit 1 of its configuration: 1 level, 0 edge */
+    uint8_t interrupt;       /* bit 2: interrupt enable */
+    uint8_t periodic;        /* bit 3 */
+    uint8_t set_comparator;  /* bit 6: 0 unless it is periodic */
+    uint8_t narrow;          /* bit 8: 32-bit mode */
+    uint8_t status;          /* its bit of the status register: 0 if it is edge type */
+} NataqvojuTimer;
+
+typedef struct {
+    uint64_t counter; /* the main counter */
+    uint64_t enabled; /* 0 or 1 */
+    NataqvojuTimer timer[3];
+} NataqvojuTimers;
+
+/* The 24 redirection entries, each with its pin's wire and held edge. */
+typedef struct {
+    uint32_t low[24];        /* 16:0 as documented, bit 12 never stored */
+    uint8_t destination[24]; /* bits 31:24 of the high word */
+    uint8_t level[24];       /* the level of the pin's wire, as the wire rule gives it: 0 or 1 */
+    uint8_t held[24];        /* an edge is held: 0 or 1, and 0 on a level pin */
+} NataqvojuEntries;
+
+typedef struct {
+    uint32_t id;    /* at most 15 */
+    uint32_t index; /* at most 255 */
+    NataqvojuEntries entries;
+} NataqvojuController;
+
+typedef struct {
+    NataqvojuTimers timers;
+    NataqvojuController controller;
+    uint8_t outside[24]; /* the levels of the outside wires: 0 or 1 */
+} NataqvojuBoard;
+
+/* ---- what comes back: 32 bytes ---- */
+
+/* What a call doesn't give is 0. A delivery step with no eligible pin is done, with `delivered` 0. */
+typedef struct {
+    uint64_t value;      /* a done read's value */
+    uint32_t number;     /* 0 done, or why the call is refused */
+    uint32_t delivered;  /* 1: a delivery step gave the pin, vector, destination and logical below */
+    uint32_t fired[3];   /* a done advance: how often each timer fired */
+    uint8_t pin;
+    uint8_t vector;
+    uint8_t destination;
+    uint8_t logical;     /* bit 11 of the entry */
+} NataqvojuNumbers;
+
+/* NataqvojuNumbers.number. A board that is not well formed is tested for first. An access then tests for the window,
+ * width and alignment, the offset, the value; a wire change for the pin, then the level. */
+enum {
+    NATAQVOJU_DONE = 0,
+    NATAQVOJU_NO_PLACE = 1,  /* the window, or the offset in it, doesn't exist */
+    NATAQVOJU_BAD_WIDTH = 2, /* width or alignment isn't allowed */
+    NATAQVOJU_NO_PIN = 3,    /* pin above 23 */
+    NATAQVOJU_BAD_VALUE = 4, /* wire level above 1, or a 4-byte write with a value above 4,294,967,295 */
+    NATAQVOJU_BAD_STATE = 5  /* the lent memory is not a well-formed board */
+};
+
+/* ---- windows and registers ---- */
+
+enum {
+    NATAQVOJU_CONTROLLER = 0, /* width 4 only */
+    NATAQVOJU_TIMERS = 1      /* width 8 only, offset a multiple of 8, below 0x400 */
+};
+
+enum { /* of the controller's window */
+    NATAQVOJU_INDEX = 0x00,
+    NATAQVOJU_DATA = 0x10
+};
+
+enum { /* what the index chooses; entry n's low word is at 0x10 + 2n, its high word one above */
+    NATAQVOJU_ID = 0x00,
+    NATAQVOJU_VERSION = 0x01,
+    NATAQVOJU_ARBITRATION = 0x02,
+    NATAQVOJU_ENTRY = 0x10
+};
+
+enum { /* of the timers' window; timer n's configuration is at 0x100 + 0x20n, its comparator 8 above */
+    NATAQVOJU_CAPABILITIES = 0x000,
+    NATAQVOJU_CONFIGURATION = 0x010,
+    NATAQVOJU_STATUS = 0x020,
+    NATAQVOJU_COUNTER = 0x0F0,
+    NATAQVOJU_TIMER = 0x100,
+    NATAQVOJU_TIMER_STEP = 0x020,
+    NATAQVOJU_COMPARATOR = 0x008
+};
+
+/* ---- the calls ---- */
+
+/* The reset state, whatever was there: also the way to make a board out of fresh memory. Always done. */
+NataqvojuNumbers nataqvoju_reset(NataqvojuBoard *board);
+
+/* A register read: value. The board stays as it is. Refused with 5, 1, 2. */
+NataqvojuNumbers nataqvoju_read(NataqvojuBoard *board, uint64_t window, uint64_t width, uint64_t offset);
+
+/* A register write. Refused with 5, 1, 2, 4. */
+NataqvojuNumbers nataqvoju_write(NataqvojuBoard *board, uint64_t window, uint64_t width, uint64_t offset, uint64_t value);
+
+/* The outside wire of a pin goes to a level. Refused with 5, 3, 4. */
+NataqvojuNumbers nataqvoju_wire(NataqvojuBoard *board, uint64_t pin, uint64_t level);
+
+/* End of interrupt: every level entry whose present vector this is loses its remote IRR. Refused with 5. */
+NataqvojuNumbers nataqvoju_end(NataqvojuBoard *board, uint8_t vector);
+
+/* So many ticks of the timer block at once: fired. Refused with 5. */
+NataqvojuNumbers nataqvoju_advance(NataqvojuBoard *board, uint32_t ticks);
+
+/* A delivery step: the lowest eligible pin, if there is one. Refused with 5. */
+NataqvojuNumbers nataqvoju_deliver(NataqvojuBoard *board);
+
+/* ---- the layout, checked where this header is compiled ---- */
+
+#if defined(__cplusplus)
+#define NATAQVOJU_CHECK(fact) static_assert(fact, #fact)
+#else
+#define NATAQVOJU_CHECK(fact) _Static_assert(fact, #fact)
+#endif
+#define NATAQVOJU_AT(type, field, place) NATAQVOJU_CHECK(offsetof(type, field) == (place))
+
+NATAQVOJU_AT(NataqvojuTimer, comparator, 0);
+NATAQVOJU_AT(NataqvojuTimer, period, 8);
+NATAQVOJU_AT(NataqvojuTimer, route, 16);
+NATAQVOJU_AT(NataqvojuTimer, level_type, 18);
+NATAQVOJU_AT(NataqvojuTimer, interrupt, 19);
+NATAQVOJU_AT(NataqvojuTimer, periodic, 20);
+NATAQVOJU_AT(NataqvojuTimer, set_comparator, 21);
+NATAQVOJU_AT(NataqvojuTimer, narrow, 22);
+NATAQVOJU_AT(NataqvojuTimer, status, 23);
+NATAQVOJU_CHECK(sizeof(NataqvojuTimer) == 24);
+
+NATAQVOJU_AT(NataqvojuTimers, counter, 0);
+NATAQVOJU_AT(NataqvojuTimers, enabled, 8);
+NATAQVOJU_AT(NataqvojuTimers, timer, 16);
+NATAQVOJU_CHECK(sizeof(NataqvojuTimers) == 88);
+
+NATAQVOJU_AT(NataqvojuEntries, low, 0);
+NATAQVOJU_AT(NataqvojuEntries, destination, 96);
+NATAQVOJU_AT(NataqvojuEntries, level, 120);
+NATAQVOJU_AT(NataqvojuEntries, held, 144);
+NATAQVOJU_CHECK(sizeof(NataqvojuEntries) == 168);
+
+NATAQVOJU_AT(NataqvojuController, id, 0);
+NATAQVOJU_AT(NataqvojuController, index, 4);
+NATAQVOJU_AT(NataqvojuController, entries, 8);
+NATAQVOJU_CHECK(sizeof(NataqvojuController) == 176);
+
+NATAQVOJU_AT(NataqvojuBoard, timers, 0);
+NATAQVOJU_AT(NataqvojuBoard, controller, 88);
+NATAQVOJU_AT(NataqvojuBoard, outside, 264);
+NATAQVOJU_CHECK(sizeof(NataqvojuBoard) == 288);
+
+NATAQVOJU_AT(NataqvojuNumbers, value, 0);
+NATAQVOJU_AT(NataqvojuNumbers, number, 8);
+NATAQVOJU_AT(NataqvojuNumbers, delivered, 12);
+NATAQVOJU_AT(NataqvojuNumbers, fired, 16);
+NATAQVOJU_AT(NataqvojuNumbers, pin, 28);
+NATAQVOJU_AT(NataqvojuNumbers, vector, 29);
+NATAQVOJU_AT(NataqvojuNumbers, destination, 30);
+NATAQVOJU_AT(NataqvojuNumbers, logical, 31);
+NATAQVOJU_CHECK(sizeof(NataqvojuNumbers) == 32);
+
+#undef NATAQVOJU_AT
+#undef NATAQVOJU_CHECK
+
+#ifdef __cplusplus
+}
+#endif
+
+#endif

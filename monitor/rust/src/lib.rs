@@ -1,0 +1,333 @@
+//! The board of a milling machine's PC, for a monitor written in Rust: an Intel 82093AA interrupt controller, an HPET timer
+//! block and the wires between them.
+//!
+//! A [`Board`] is a plain value of 288 bytes that the monitor owns. Each method lends it to the proved model, which changes
+//! it where it lies; nothing else is kept anywhere. `&mut self` is what the model asks of its caller: a valid, aligned
+//! address that nobody else uses during the call.
+//!
+//! ```
+//! use nataqvoju::{Board, Window, INDEX, DATA};
+//!
+//! let mut board = Board::new();
+//! board.write(Window::CONTROLLER, 4, INDEX, 0x10)?;
+//! board.write(Window::CONTROLLER, 4, DATA, 0x20)?;
+//! board.wire(0, 1)?;
+//! let interrupt = board.deliver()?.expect("pin 0 has an edge");
+//! assert_eq!((interrupt.pin, interrupt.vector), (0, 0x20));
+//! assert_eq!(board.deliver()?, None);
+//! # Ok::<(), nataqvoju::Refusal>(())
+//! ```
+//!
+//! What is proved: for every argument and every byte pattern of the board, the board after a call and its answer are those
+//! of the model's own call by value. A refused call leaves every byte as it was.
+#![warn(missing_docs)]
+
+use std::fmt;
+use std::mem::{align_of, size_of, transmute};
+use std::ptr::addr_of;
+
+/// One timer. Flags are 0 or 1; any other value is a board that is not well formed.
+#[repr(C)]
+#[derive(Clone, Copy, Debug, PartialEq, Eq, Hash)]
+pub struct Timer {
+    /// Below 2^32 in 32-bit mode.
+    pub comparator: u64,
+    /// Below 2^32 in 32-bit mode.
+    pub period: u64,
+    /// The pin that it is routed to, at most 23.
+    pub route: u16,
+    /// Bit 1 of its configuration: 1 level, 0 edge.
+    pub level_type: u8,
+    /// Bit 2: interrupt enable.
+    pub interrupt: u8,
+    /// Bit 3.
+    pub periodic: u8,
+    /// Bit 6: 0 unless it is periodic.
+    pub set_comparator: u8,
+    /// Bit 8: 32-bit mode.
+    pub narrow: u8,
+    /// Its bit of the status register: 0 if it is edge type.
+    pub status: u8,
+}
+
+/// The timer block.
+#[repr(C)]
+#[derive(Clone, Copy, Debug, PartialEq, Eq, Hash)]
+pub struct Timers {
+    /// The main counter.
+    pub counter: u64,
+    /// 0 or 1.
+    pub enabled: u64,
+    /// The three timers.
+    pub timer: [Timer; 3],
+}
+
+/// The 24 redirection entries, each with its pin's wire and held edge.
+#[repr(C)]
+#[derive(Clone, Copy, Debug, PartialEq, Eq, Hash)]
+pub struct Entries {
+    /// Low words. Bit 12 is never stored.
+    pub low: [u32; 24],
+    /// Bits 31:24 of the high words.
+    pub destination: [u8; 24],
+    /// The level of each pin's wire, as the wire rule gives it: 0 or 1.
+    pub level: [u8; 24],
+    /// An edge is held: 0 or 1, and 0 on a level pin.
+    pub held: [u8; 24],
+}
+
+/// The interrupt controller.
+#[repr(C)]
+#[derive(Clone, Copy, Debug, PartialEq, Eq, Hash)]
+pub struct Controller {
+    /// At most 15.
+    pub id: u32,
+    /// At most 255.
+    pub index: u32,
+    /// The redirection table.
+    pub entries: Entries,
+}
+
+/// The board: 288 bytes, none of them padding.
+#[repr(C)]
+#[derive(Clone, Copy, Debug, PartialEq, Eq, Hash)]
+pub struct Board {
+    /// The timer block.
+    pub timers: Timers,
+    /// The interrupt controller.
+    pub controller: Controller,
+    /// The levels of the outside wires: 0 or 1.
+    pub outside: [u8; 24],
+}
+
+/// An answer as the model gives it. What a call doesn't give is 0.
+#[repr(C)]
+#[derive(Clone, Copy, Debug, PartialEq, Eq)]
+struct Numbers {
+    value: u64,
+    number: u32,
+    delivered: u32,
+    fired: [u32; 3],
+    pin: u8,
+    vector: u8,
+    destination: u8,
+    logical: u8,
+}
+
+/// A number that chooses a window. Any number may be asked for; one that is no window is refused.
+#[derive(Clone, Copy, Debug, PartialEq, Eq, Hash)]
+pub struct Window(pub u64);
+
+impl Window {
+    /// The interrupt controller's: width 4 only.
+    pub const CONTROLLER: Window = Window(0);
+    /// The timer block's: width 8 only, offset a multiple of 8, below 0x400.
+    pub const TIMERS: Window = Window(1);
+}
+
+/// Offset in the controller's window: the index.
+pub const INDEX: u64 = 0x00;
+/// Offset in the controller's window: the register that the index chooses.
+pub const DATA: u64 = 0x10;
+/// Index of entry 0's low word; entry n's is 2n above it, and its high word one above that.
+pub const ENTRY: u64 = 0x10;
+/// Offset in the timers' window: bit 0 enables the block.
+pub const CONFIGURATION: u64 = 0x010;
+/// Offset in the timers' window: bit n is timer n's status; writing 1 clears it.
+pub const STATUS: u64 = 0x020;
+/// Offset in the timers' window: the main counter.
+pub const COUNTER: u64 = 0x0F0;
+/// Offset in the timers' window: timer 0's configuration; timer n's is n times [`TIMER_STEP`] above it.
+pub const TIMER: u64 = 0x100;
+/// From a timer's registers to the next one's.
+pub const TIMER_STEP: u64 = 0x020;
+/// From a timer's configuration to its comparator.
+pub const COMPARATOR: u64 = 0x008;
+
+/// Why a call was refused. The board is as it was.
+#[derive(Clone, Copy, Debug, PartialEq, Eq, Hash)]
+#[repr(u32)]
+pub enum Refusal {
+    /// The window, or the offset in it, doesn't exist.
+    Place = 1,
+    /// Width or alignment isn't allowed.
+    Width = 2,
+    /// Pin above 23.
+    Pin = 3,
+    /// Wire level above 1, or a 4-byte write with a value above 4,294,967,295.
+    Value = 4,
+    /// The board is not well formed.
+    State = 5,
+}
+
+impl Refusal {
+    /// The number of the refusal, 1 to 5.
+    pub fn number(self) -> u32 {
+        self as u32
+    }
+}
+
+impl fmt::Display for Refusal {
+    fn fmt(&self, f: &mut fmt::Formatter<'_>) -> fmt::Result {
+        f.write_str(match self {
+            Refusal::Place => "the window, or the offset in it, doesn't exist",
+            Refusal::Width => "width or alignment isn't allowed",
+            Refusal::Pin => "pin above 23",
+            Refusal::Value => "wire level above 1, or a 4-byte write with a value above 4,294,967,295",
+            Refusal::State => "the board is not well formed",
+        })
+    }
+}
+
+impl std::error::Error for Refusal {}
+
+/// What a delivery step gives.
+#[derive(Clone, Copy, Debug, PartialEq, Eq, Hash)]
+pub struct Interrupt {
+    /// The lowest eligible pin.
+    pub pin: u8,
+    /// Its entry's vector.
+    pub vector: u8,
+    /// Its entry's destination.
+    pub destination: u8,
+    /// Its entry's bit 11.
+    pub logical: bool,
+}
+
+extern "C" {
+    fn nataqvoju_reset(board: &mut Board) -> Numbers;
+    fn nataqvoju_read(board: &mut Board, window: u64, width: u64, offset: u64) -> Numbers;
+    fn nataqvoju_write(board: &mut Board, window: u64, width: u64, offset: u64, value: u64) -> Numbers;
+    fn nataqvoju_wire(board: &mut Board, pin: u64, level: u64) -> Numbers;
+    fn nataqvoju_end(board: &mut Board, vector: u8) -> Numbers;
+    fn nataqvoju_advance(board: &mut Board, ticks: u32) -> Numbers;
+    fn nataqvoju_deliver(board: &mut Board) -> Numbers;
+}
+
+impl Numbers {
+    fn done(self) -> Result<Numbers, Refusal> {
+        match self.number {
+            0 => Ok(self),
+            1 => Err(Refusal::Place),
+            2 => Err(Refusal::Width),
+            3 => Err(Refusal::Pin),
+            4 => Err(Refusal::Value),
+            // 6 to 8 are a log's: no call on a board gives them.
+            _ => Err(Refusal::State),
+        }
+    }
+}
+
+// SAFETY of every `unsafe` call below: the declarations above are those of `monitor/nataqvoju.h`; the layouts are checked at
+// the end of this file; every byte pattern is a `Board` and a `Numbers`; `&mut self` is valid, aligned and not aliased; and
+// the model reads and writes nothing else.
+impl Board {
+    /// How many bytes a board has.
+    pub const SIZE: usize = 288;
+
+    /// A board fresh from reset.
+    pub fn new() -> Board {
+        let mut board = Board::from_bytes([0; Board::SIZE]);
+        board.reset();
+        board
+    }
+
+    /// The reset state, whatever was there.
+    pub fn reset(&mut self) {
+        unsafe { nataqvoju_reset(self) };
+    }
+
+    /// A register read.
+    pub fn read(&mut self, window: Window, width: u64, offset: u64) -> Result<u64, Refusal> {
+        let numbers = unsafe { nataqvoju_read(self, window.0, width, offset) };
+        Ok(numbers.done()?.value)
+    }
+
+    /// A register write.
+    pub fn write(&mut self, window: Window, width: u64, offset: u64, value: u64) -> Result<(), Refusal> {
+        let numbers = unsafe { nataqvoju_write(self, window.0, width, offset, value) };
+        numbers.done().map(drop)
+    }
+
+    /// The outside wire of a pin goes to a level.
+    pub fn wire(&mut self, pin: u64, level: u64) -> Result<(), Refusal> {
+        let numbers = unsafe { nataqvoju_wire(self, pin, level) };
+        numbers.done().map(drop)
+    }
+
+    /// End of interrupt: every level entry whose present vector this is loses its remote IRR.
+    pub fn end(&mut self, vector: u8) -> Result<(), Refusal> {
+        let numbers = unsafe { nataqvoju_end(self, vector) };
+        numbers.done().map(drop)
+    }
+
+    /// So many ticks at once: how often each timer fired.
+    pub fn advance(&mut self, ticks: u32) -> Result<[u32; 3], Refusal> {
+        let numbers = unsafe { nataqvoju_advance(self, ticks) };
+        Ok(numbers.done()?.fired)
+    }
+
+    /// A delivery step: the lowest eligible pin, if there is one.
+    pub fn deliver(&mut self) -> Result<Option<Interrupt>, Refusal> {
+        let numbers = unsafe { nataqvoju_deliver(self) }.done()?;
+        if numbers.delivered == 0 {
+            return Ok(None);
+        }
+        Ok(Some(Interrupt {
+            pin: numbers.pin,
+            vector: numbers.vector,
+            destination: numbers.destination,
+            logical: numbers.logical == 1,
+        }))
+    }
+
+    /// The board as bytes, to save it.
+    pub fn to_bytes(&self) -> [u8; Board::SIZE] {
+        // SAFETY: no byte of a board is padding.
+        unsafe { transmute::<Board, [u8; Board::SIZE]>(*self) }
+    }
+
+    /// A board out of bytes. Any bytes will do: those that are no well-formed board are refused by the first call.
+    pub fn from_bytes(bytes: [u8; Board::SIZE]) -> Board {
+        // SAFETY: every byte pattern is a board.
+        unsafe { transmute::<[u8; Board::SIZE], Board>(bytes) }
+    }
+}
+
+impl Default for Board {
+    fn default() -> Board {
+        Board::new()
+    }
+}
+
+// ---- the layout, checked where this is compiled. No padding: each size is the sum of the fields' sizes.
+
+/// The bytes 0, 1, 2, ..: laid over them, a field reads its own place as its first byte.
+const fn places<const N: usize>() -> [u8; N] {
+    let mut bytes = [0; N];
+    let mut i = 0;
+    while i < N {
+        bytes[i] = (i % 256) as u8;
+        i += 1;
+    }
+    bytes
+}
+
+macro_rules! layout {
+    ($type:ty, $size:expr, $align:expr, $($field:ident at $place:expr),+) => {
+        const _: () = {
+            assert!(size_of::<$type>() == $size && align_of::<$type>() == $align);
+            let laid = unsafe { transmute::<[u8; $size], $type>(places()) };
+            $(assert!(unsafe { *(addr_of!(laid.$field) as *const u8) } == ($place % 256) as u8);)+
+        };
+    };
+}
+
+layout!(Timer, 24, 8, comparator at 0, period at 8, route at 16, level_type at 18, interrupt at 19, periodic at 20,
+    set_comparator at 21, narrow at 22, status at 23);
+layout!(Timers, 88, 8, counter at 0, enabled at 8, timer at 16);
+layout!(Entries, 168, 4, low at 0, destination at 96, level at 120, held at 144);
+layout!(Controller, 176, 4, id at 0, index at 4, entries at 8);
+layout!(Board, 288, 8, timers at 0, controller at 88, outside at 264);
+layout!(Numbers, 32, 8, value at 0, number at 8, delivered at 12, fired at 16, pin at 28, vector at 29, destination at 30,
+    logical at 31);
