@@ -1,23 +1,19 @@
 -- The wire rule's levels: 24 of them, each 0 or 1; they are the same where the timers drive the same, and rise where these drive more.
 use Prim.Native.Nat.{ℕ, _<_}
 use mathlib.Core.Path.{_≡_, refl, sym, ap, _∙_}
-use mathlib.Core.Bool.{Bool, true, false, cond, _||_}
+use mathlib.Core.Bool.{Bool, true, false, _||_}
 use mathlib.Core.List.{List}
 use native.Mathlib.Omega.{arith}
 use lib.Dec.{eqb, leb}
 use lib.ListN.{getD, length}
-use lib.Seq.{ext-getD}
 use mir.Val.{boolByte}
-use Rattle.pins.specs.Pins.{pins, every}
-use Rattle.pins.proofs.Every.{every-cong}
+use Rattle.pins.specs.Pins.{pins}
 use Rattle.pins.proofs.Fill.{getD-tab, length-tab}
-use Rattle.entries.specs.declared.Entries.{Entries}
-use Rattle.entries.specs.Table.{levelAt, levelsOk}
+use Rattle.entries.specs.Table.{levelsOk}
 use Rattle.entries.proofs.Formed.{levels-of}
 use Rattle.timers.specs.declared.Timers.{Timers}
-use Rattle.timers.specs.Tick.{drivesOf, drivenOf}
-use Rattle.timers.proofs.Driven.{driven-at, driven-long}
-use Rattle.board.specs.Wires.{highAt, highsOf, wiresOf}
+use Rattle.timers.specs.Tick.{drivesOf}
+use Rattle.board.specs.Wires.{highAt, wiresOf}
 
 abbrev rule : List ℕ → Timers → ℕ → ℕ
 rule o s p = boolByte (highAt o s p)
@@ -59,30 +55,3 @@ module _ (o : List ℕ) (s s′ : Timers) where
   wires-more p l f h =
       wires-at o s′ p l
       ∙ ap boolByte (or-more (eqb (getD o p 0) 1) (drivesOf s p) (drivesOf s′ p) f (is-true (highAt o s p) (sym (wires-at o s p l) ∙ h)))
-
--- ---- the code's levels: the outside wires that are high, and then those that the timers raise
-
-highs-at : (o : List ℕ) (p : ℕ) → p < 24 → getD (highsOf o) p 0 ≡ boolByte (eqb (getD o p 0) 1)
-unfolding highsOf
-highs-at o p l = getD-tab (λ q. boolByte (eqb (getD o q 0) 1)) 24 p 0 l
-
-raise : (x d : Bool) → cond d 1 (boolByte x) ≡ boolByte (x || d)
-raise true true = refl
-raise true false = refl
-raise false true = refl
-raise false false = refl
-
-pub wires-driven : (o : List ℕ) (s : Timers) → drivenOf s (highsOf o) ≡ wiresOf o s
-unfolding highAt
-wires-driven o s =
-    ext-getD 0 (drivenOf s (highsOf o)) (wiresOf o s) (driven-long s (highsOf o) ∙ sym (wires-long o s))
-    (λ p j.
-    let h : p < 24 = rw (driven-long s (highsOf o)) at j in
-    driven-at s (highsOf o) p h
-    ∙ ap (λ (x : ℕ). cond (drivesOf s p) 1 x) (highs-at o p h)
-    ∙ raise (eqb (getD o p 0) 1) (drivesOf s p)
-    ∙ sym (wires-at o s p h))
-
--- the test of the levels kept, against the rule's levels as a list and at each pin
-pub kept-every : (e : Entries) (o : List ℕ) (s : Timers) → every (λ p. eqb (levelAt e p) (getD (wiresOf o s) p 0)) ≡ every (λ p. eqb (levelAt e p) (boolByte (highAt o s p)))
-kept-every e o s = every-cong (λ p. eqb (levelAt e p) (getD (wiresOf o s) p 0)) (λ p. eqb (levelAt e p) (boolByte (highAt o s p))) (λ p l. ap (eqb (levelAt e p)) (wires-at o s p l))

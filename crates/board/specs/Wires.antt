@@ -17,10 +17,6 @@ use Rattle.board.specs.State.{board}
 unfoldable pub highAt : List ℕ → Timers → ℕ → Bool
 highAt o s p = eqb (getD o p 0) 1 || drivesOf s p
 
--- the outside wires that are high: only inner functions cite it
-unfoldable pub highsOf : List ℕ → List ℕ
-highsOf o = pins (λ p. boolByte (eqb (getD o p 0) 1))
-
 -- the level of every pin's wire, outside a pulse
 unfoldable pub wiresOf : List ℕ → Timers → List ℕ
 wiresOf o s = pins (λ p. boolByte (highAt o s p))

@@ -2,31 +2,24 @@
 ghost use mathlib.Core.Path.{_≡_};
 ghost use Rattle.pins.specs.Pins.{every};
 ghost use Rattle.board.specs.State.{resetBoard};
-ghost use Rattle.board.specs.Wires.{highsOf, wiresOf, joined};
+ghost use Rattle.board.specs.Wires.{highAt, wiresOf, joined};
 ghost use Rattle.board.specs.Formed.{keptAt, wellFormed};
 use crate::Board;
 use controller::Controller;
 use entries::Entries;
 use timers::Timers;
 
-// The outside wires that are high.
-fn highs(outside: [u8; 24]) -> [u8; 24]
-    ensures { λ r. ⌜ r ≡ highsOf outside ⌝ }
-{
-    let mut levels: [u8; 24] = [0; 24];
-    let mut i: usize = 0;
-    while i < Entries::PINS {
-        levels[i] = (outside[i] == 1) as u8;
-        i += 1;
-    }
-    levels
-}
-
 // The wire rule at every pin.
 pub fn wires(outside: [u8; 24], timers: Timers) -> [u8; 24]
     ensures { λ r. ⌜ r ≡ wiresOf outside timers ⌝ }
 {
-    timers.driven(highs(outside))
+    let mut levels: [u8; 24] = [0; 24];
+    let mut i: usize = 0;
+    while i < Entries::PINS {
+        levels[i] = ((outside[i] == 1) | timers.drives(i as u16)) as u8;
+        i += 1;
+    }
+    levels
 }
 
 impl Board {
@@ -59,11 +52,10 @@ impl Board {
         let entries = c.entries;
         let timers = self.timers;
         let outside = self.outside;
-        let levels = wires(outside, timers);
         let mut ok = true;
         let mut i: usize = 0;
         while i < Entries::PINS {
-            ok = ok & (entries.level[i] == levels[i]);
+            ok = ok & (entries.level[i] == ((outside[i] == 1) | timers.drives(i as u16)) as u8);
             i += 1;
         }
         ok

@@ -16,4 +16,3 @@ pub mod Formed
 pub mod Kept
 pub mod Bits
 pub mod Written
-pub mod Raised

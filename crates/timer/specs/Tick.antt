@@ -1,10 +1,7 @@
 -- "One tick", one timer's part: its match, its firing, and what it does to the wire of its pin.
 use Prim.Native.Nat.{ℕ, _+_, _%_, _^_}
 use mathlib.Core.Bool.{Bool, cond, _&&_, not}
-use mathlib.Core.List.{List}
 use lib.Dec.{eqb}
-use lib.ListN.{getD}
-use Rattle.pins.specs.Pins.{pins}
 use Rattle.timer.specs.declared.Timer.{Timer}
 use Rattle.timer.specs.State.{flag, width, reduced, narrowed, withStatus, withComparator}
 
@@ -24,14 +21,6 @@ firing t =
 unfoldable pub pulsing : Timer → Bool
 pulsing t = not (flag (t .«level_type»)) && flag (t .interrupt)
 
--- it has level type, interrupt enable and status
-abbrev pub drivingAt : Timer → Bool
-drivingAt t = flag (t .«level_type») && (flag (t .interrupt) && flag (t .status))
-
 -- it is routed to the pin and has level type, interrupt enable and status
 unfoldable pub driving : Timer → ℕ → Bool
 driving t pin = flag (t .«level_type») && (flag (t .interrupt) && (flag (t .status) && eqb (t .route) pin))
-
--- the levels of the 24 wires with the one raised that it holds high
-unfoldable pub raisedOf : Timer → List ℕ → List ℕ
-raisedOf t l = pins (λ pin. cond (driving t pin) 1 (getD l pin 0))

@@ -7,7 +7,7 @@ ghost use mir.Val.{boolByte};
 ghost use Rattle.timer.specs.State.{flag, width, reduced, blank, resetTimer};
 ghost use Rattle.timer.specs.Formed.{flagsFit, narrowFits, timerFormed};
 ghost use Rattle.timer.specs.Registers.{bit, configurationOf, configuredOf, comparedOf, clearedOf};
-ghost use Rattle.timer.specs.Tick.{meets, firing, pulsing, drivingAt, raisedOf};
+ghost use Rattle.timer.specs.Tick.{meets, firing, pulsing, driving};
 ghost use Rattle.timer.specs.Alone.{runOf};
 ghost use Rattle.timer.specs.Closed.{times, stride, firedTo, Ahead};
 
@@ -215,27 +215,12 @@ impl Timer {
         !(self.level_type == 1) & (self.interrupt == 1)
     }
 
-    // It holds the wire of its pin high, in a block that is enabled.
-    fn driving(self) -> bool
-        ensures { λ r. ⌜ r ≡ drivingAt self ⌝ }
+    // It holds the wire of the pin high, in a block that is enabled.
+    pub fn drives(self, pin: u16) -> bool
+        ensures { λ r. ⌜ r ≡ driving self pin ⌝ }
     {
-        (self.level_type == 1) & ((self.interrupt == 1) & (self.status == 1))
-    }
-
-    // These levels with the wire raised that it holds high. There is no pin above 23.
-    pub fn raised(self, levels: [u8; 24]) -> [u8; 24]
-        ensures { λ r. ⌜ r ≡ raisedOf self levels ⌝ }
-    {
-        if !self.driving() {
-            return levels;
-        }
-        let pin = self.route as usize;
-        if 24 <= pin {
-            return levels;
-        }
-        let mut high = levels;
-        high[pin] = 1;
-        high
+        (self.level_type == 1)
+            & ((self.interrupt == 1) & ((self.status == 1) & (self.route == pin)))
     }
 
     // ---- many ticks at once

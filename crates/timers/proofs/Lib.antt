@@ -33,4 +33,3 @@ pub mod Numbers
 pub mod Sheet
 pub mod Demands
 pub mod Decided
-pub mod Driven

@@ -1,10 +1,7 @@
 -- "One tick", literally; many ticks; how often a timer fires in them, and when first; the timers' part of the wire rule.
 use Prim.Native.Nat.{ℕ, zero, suc, _+_, _%_, _^_}
 use mathlib.Core.Bool.{Bool, cond, _&&_, _||_}
-use mathlib.Core.List.{List}
 use lib.Dec.{eqb}
-use lib.ListN.{getD}
-use Rattle.pins.specs.Pins.{pins}
 use Rattle.timer.specs.Tick.{meets, firing, pulsing, driving}
 use Rattle.timers.specs.declared.Timers.{Timers}
 use Rattle.timers.specs.declared.Ran.{Ran}
@@ -69,10 +66,6 @@ ranOf s n = ran (ticks n s) (λ m. firings m n s) (λ m. first m n s)
 -- a pin's wire is high if some timer routed there has level type, interrupt enable and status, with the block enabled
 unfoldable pub drivesOf : Timers → ℕ → Bool
 drivesOf s pin = isEnabled s && (driving (at s 0) pin || (driving (at s 1) pin || driving (at s 2) pin))
-
--- these levels with the wires raised that the timers hold high
-unfoldable pub drivenOf : Timers → List ℕ → List ℕ
-drivenOf s l = pins (λ pin. cond (drivesOf s pin) 1 (getD l pin 0))
 
 -- a firing edge timer with its interrupt enabled raises the wire of its pin and drops it again
 unfoldable pub pulsesOf : Timers → ℕ → Bool

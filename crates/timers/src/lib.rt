@@ -7,7 +7,7 @@ ghost use Rattle.timer.specs.Registers.{bit, clearedOf};
 ghost use Rattle.timers.specs.State.{at, isEnabled, withCounter, withEnabled, withTimer, withTimers, resetTimers};
 ghost use Rattle.timers.specs.Formed.{wellFormed};
 ghost use Rattle.timers.specs.Registers.{aligned, clearedBy, statusOf, timerRegister, registerOf, timerWritten, writtenOf};
-ghost use Rattle.timers.specs.Tick.{countedOf, matchesOf, firedOf, drivenOf, pulsesOf, routeOf, ranOf};
+ghost use Rattle.timers.specs.Tick.{countedOf, matchesOf, firedOf, drivesOf, pulsesOf, routeOf, ranOf};
 ghost use Rattle.timers.specs.Call.{refused, readingOf, writingOf, readOf, writeOf, advanceOf};
 use answers::Answer;
 use answers::Refusal;
@@ -140,18 +140,15 @@ impl Timers {
 
     // ---- the timers' part of the wire rule
 
-    // These levels with the wires raised that the timers hold high.
-    pub fn driven(self, levels: [u8; 24]) -> [u8; 24]
-        ensures { λ r. ⌜ r ≡ drivenOf self levels ⌝ }
+    // The block is enabled, and some timer routed to the pin has level type, interrupt enable and status.
+    pub fn drives(self, pin: u16) -> bool
+        ensures { λ r. ⌜ r ≡ drivesOf self pin ⌝ }
     {
-        if self.enabled != 1 {
-            return levels;
-        }
         let t = self.timer;
         let t0 = t[0];
         let t1 = t[1];
         let t2 = t[2];
-        t0.raised(t1.raised(t2.raised(levels)))
+        (self.enabled == 1) & (t0.drives(pin) | (t1.drives(pin) | t2.drives(pin)))
     }
 
     // Timer m's firing is a pulse: edge type with its interrupt enabled.
