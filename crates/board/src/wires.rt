@@ -9,15 +9,17 @@ use controller::Controller;
 use entries::Entries;
 use timers::Timers;
 
-// The wire rule at every pin.
+// The wire rule at every pin. The pin is counted at the width of a route, so that the loop is worked out in vectors.
 pub fn wires(outside: [u8; 24], timers: Timers) -> [u8; 24]
     ensures { λ r. ⌜ r ≡ wiresOf outside timers ⌝ }
 {
     let mut levels: [u8; 24] = [0; 24];
     let mut i: usize = 0;
+    let mut pin: u16 = 0;
     while i < Entries::PINS {
-        levels[i] = ((outside[i] == 1) | timers.drives(i as u16)) as u8;
+        levels[i] = ((outside[i] == 1) | timers.drives(pin)) as u8;
         i += 1;
+        pin += 1;
     }
     levels
 }
@@ -54,9 +56,11 @@ impl Board {
         let outside = self.outside;
         let mut ok = true;
         let mut i: usize = 0;
+        let mut pin: u16 = 0;
         while i < Entries::PINS {
-            ok = ok & (entries.level[i] == ((outside[i] == 1) | timers.drives(i as u16)) as u8);
+            ok = ok & (entries.level[i] == ((outside[i] == 1) | timers.drives(pin)) as u8);
             i += 1;
+            pin += 1;
         }
         ok
     }

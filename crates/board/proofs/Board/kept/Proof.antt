@@ -11,6 +11,7 @@ use Rattle.board.specs.Wires.{highAt}
 use Rattle.entries.specs.declared.Entries.{Entries}
 use Rattle.entries.specs.Table.{levelAt}
 use Rattle.timers.specs.declared.Timers.{Timers}
+use Rattle.timers.specs.Tick.{drivesOf}
 use native.Mathlib.Omega.{arith}
 use Rattle.board.proofs.Board.kept.Statement.{statement}
 use Rattle.board.proofs.Board.kept.Tie as tie
@@ -22,15 +23,15 @@ abbrev keptIn : Entries → Timers → List ℕ → ℕ → Bool
 keptIn e s o p = eqb (levelAt e p) (boolByte (highAt o s p))
 
 abbrev Inv-loop : tie.InvT-loop
-Inv-loop entries timers outside ok₀ i₀ ok i = (i ≤ 24) × (ok ≡ allFrom (keptIn entries timers outside) 0 i)
+Inv-loop entries timers outside ok₀ i₀ pin₀ ok i pin = (i ≤ 24) × (ok ≡ allFrom (keptIn entries timers outside) 0 i) × (pin ≡ i)
 
 abbrev μ-loop : tie.MeasureT-loop
-μ-loop entries timers outside ok₀ i₀ ok i = 24 - i
+μ-loop entries timers outside ok₀ i₀ pin₀ ok i pin = 24 - i
 
 -- src/wires.rt:57:9
 loop-holds : tie.Need-loop-holds Inv-loop μ-loop
 unfolding allFrom
-loop-holds c = (omega arith, refl)
+loop-holds c = (omega arith, refl, refl)
 
 -- src/wires.rt:58:24
 element-copy-out-ok : tie.Need-element-copy-out-ok Inv-loop μ-loop
@@ -41,9 +42,6 @@ array-read-ok : tie.Need-array-read-ok Inv-loop μ-loop
 array-read-ok c = omega arith
 
 -- src/wires.rt:58:65
-cast-drives : tie.Need-cast-drives Inv-loop μ-loop
-cast-drives c = omega arith
-
 drives-requires : tie.Need-drives-requires Inv-loop μ-loop
 drives-requires c κs = tt
 
@@ -54,6 +52,9 @@ cast-ok c = omega arith
 -- src/wires.rt:59:13
 add-i : tie.Need-add-i Inv-loop μ-loop
 add-i c = omega arith
+
+add-pin : tie.Need-add-pin Inv-loop μ-loop
+add-pin c = omega arith
 
 -- src/wires.rt:57:9
 loop-less : tie.Need-loop-less Inv-loop μ-loop
@@ -70,8 +71,9 @@ loop-again c =
     let o = b .outside in
     let i = a .loop .i in (
       omega arith,
-      ap₂ (λ (x y : Bool). x && eqb (levelAt e i) (boolByte (eqb (getD o i 0) 1 || y))) (a .loop .inv .1) (c .drives .ensures)
+      ap₂ (λ (x y : Bool). x && eqb (levelAt e i) (boolByte (eqb (getD o i 0) 1 || y))) (a .loop .inv .1) (c .drives .ensures ∙ ap (drivesOf s) (a .loop .inv .2))
           ∙ all-more (keptIn e s o) i,
+      omega (arith, a .loop .inv .2),
     )
 
 -- src/wires.rt:48:5
@@ -91,10 +93,10 @@ kept-spec =
     loop-holds
     element-copy-out-ok
     array-read-ok
-    cast-drives
     drives-requires
     cast-ok
     add-i
+    add-pin
     loop-less
     loop-again
     returns)

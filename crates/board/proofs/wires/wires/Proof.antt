@@ -7,6 +7,7 @@ use mir.Val.{boolByte}
 use lib.Dec.{eqb}
 use lib.ListN.{set, drop, getD, replicate}
 use Rattle.timers.specs.declared.Timers.{Timers}
+use Rattle.timers.specs.Tick.{drivesOf}
 use Rattle.pins.specs.Pins.{tab}
 use Rattle.pins.proofs.Fill.{fill-more, fill-all}
 use Rattle.board.specs.Wires.{highAt, wiresOf}
@@ -24,24 +25,21 @@ abbrev zeros : List ℕ
 zeros = replicate 24 0
 
 abbrev Inv-loop : tie.InvT-loop
-Inv-loop timers outside levels₀ i₀ levels i = (i ≤ 24) × (levels ≡ tab (rule outside timers) 0 i ++ drop i zeros)
+Inv-loop timers outside levels₀ i₀ pin₀ levels i pin = (i ≤ 24) × (levels ≡ tab (rule outside timers) 0 i ++ drop i zeros) × (pin ≡ i)
 
 abbrev μ-loop : tie.MeasureT-loop
-μ-loop timers outside levels₀ i₀ levels i = 24 - i
+μ-loop timers outside levels₀ i₀ pin₀ levels i pin = 24 - i
 
 -- src/wires.rt:18:5
 loop-holds : tie.Need-loop-holds Inv-loop μ-loop
 unfolding tab
-loop-holds c = (omega arith, refl)
+loop-holds c = (omega arith, refl, refl)
 
 -- src/wires.rt:19:23
 array-read-levels : tie.Need-array-read-levels Inv-loop μ-loop
 array-read-levels c = omega arith
 
 -- src/wires.rt:19:42
-cast-drives : tie.Need-cast-drives Inv-loop μ-loop
-cast-drives c = omega arith
-
 drives-requires : tie.Need-drives-requires Inv-loop μ-loop
 drives-requires c κs = tt
 
@@ -57,6 +55,9 @@ array-write-levels c = omega arith
 add-i : tie.Need-add-i Inv-loop μ-loop
 add-i c = omega arith
 
+add-pin : tie.Need-add-pin Inv-loop μ-loop
+add-pin c = omega arith
+
 -- src/wires.rt:18:5
 loop-less : tie.Need-loop-less Inv-loop μ-loop
 loop-less c = omega arith
@@ -71,8 +72,9 @@ loop-again c =
     let i = a .loop .i in (
       omega arith,
       ap (λ (l : List ℕ). set l i (boolByte (eqb (getD o i 0) 1 || c .drives .result))) (a .loop .inv .1)
-          ∙ ap (λ (b : Bool). set (tab (rule o s) 0 i ++ drop i zeros) i (boolByte (eqb (getD o i 0) 1 || b))) (c .drives .ensures)
+          ∙ ap (λ (b : Bool). set (tab (rule o s) 0 i ++ drop i zeros) i (boolByte (eqb (getD o i 0) 1 || b))) (c .drives .ensures ∙ ap (drivesOf s) (a .loop .inv .2))
           ∙ fill-more (rule o s) i zeros (omega arith),
+      omega (arith, a .loop .inv .2),
     )
 
 -- src/wires.rt:13:1
@@ -92,11 +94,11 @@ wires-spec =
     μ-loop
     loop-holds
     array-read-levels
-    cast-drives
     drives-requires
     cast-levels
     array-write-levels
     add-i
+    add-pin
     loop-less
     loop-again
     returns)
