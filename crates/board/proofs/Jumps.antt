@@ -90,7 +90,7 @@ next-is f a n h =
     which (inl e) (inl p) (inr q) = inr (inr (inr (e ∙ p ∙ q)))
     which (inl e) (inl p) (inl q) = inl (e ∙ p ∙ q)
 
--- ---- at most four ticks are taken by themselves: so many of the four numbers are ahead
+-- ---- the loop has at most four rounds: so many of the four numbers are ahead
 
 abbrev ahead : ℕ → ℕ → ℕ
 ahead a x = boolByte (ltb a x)
@@ -123,7 +123,7 @@ left-less f a n r h = go (h .one)
     go (inr (inr (inl e))) = omega (arith, one-less a r (getD f 1 0) k e, g n, g (getD f 0 0), g (getD f 2 0))
     go (inr (inr (inr e))) = omega (arith, one-less a r (getD f 2 0) k e, g n, g (getD f 0 0), g (getD f 1 0))
 
--- no advance takes more than four ticks by themselves, however many ticks it has and however often the timers fire
+-- however many ticks an advance has and however often the timers fire
 pub left-most : (f : List ℕ) (n a : ℕ) → left f n a ≤ 4
 left-most f n a = omega (arith, bit (ltb a n), bit (ltb a (getD f 0 0)), bit (ltb a (getD f 1 0)), bit (ltb a (getD f 2 0)))
   where
