@@ -5,4 +5,5 @@ pub mod Turns
 pub mod Ticks
 pub mod Jumps
 pub mod Keeps
+pub mod Held
 pub mod Demands
