@@ -20,7 +20,7 @@ use Rattle.controller.specs.Window.{readingOf as controllerReading, writingOf a
 use Rattle.controller.specs.Steps.{rewired}
 use Rattle.controller.specs.Calls.{write as writeCall, deliver as deliverCall}
 use Rattle.controller.proofs.Formed.{reading-same}
-use Rattle.controller.proofs.Demands.{Loses as ControllerLoses, delivered as controller-delivered, made-level as controller-made-level, held-kept as controller-held-kept, read-served, write-served, deliver-served, deliver-is, status-read as controller-status-read}
+use Rattle.controller.proofs.Demands.{Loses as ControllerLoses, delivered as controller-delivered, made-level as controller-made-level, held-kept as controller-held-kept, held-lost as controller-held-lost, read-served, write-served, deliver-served, deliver-is, status-read as controller-status-read}
 use Rattle.timers.specs.declared.Timers.{Timers}
 use Rattle.timers.specs.State.{isEnabled}
 use Rattle.timers.specs.Tick.{matchesOf, firedOf, pulsesOf, routeOf}
@@ -156,7 +156,22 @@ module _ (b : Board) (z : Formed b) (p : ℕ) (l : p < 24) (h : Held p b) where
   pub held-kept : (k : Call) → (Loses b p k → ⊥) → heldAt (turnOf b k .board .controller .entries) p ≡ 1
   held-kept k f = ap (λ (t : Turn). heldAt (t .board .controller .entries) p) (served b k (formed-out b z)) ∙ served-held k f
 
--- … and so does any sequence of calls of which none loses it
+  -- … and each of the two loses it
+  pub held-lost : (k : Call) → Loses b p k → heldAt (turnOf b k .board .controller .entries) p ≡ 0
+  unfolding servedOf writingOf deliveringOnBoard
+  held-lost _ (delivered e) =
+      let s = served b call.Deliver (formed-out b z) in
+      let d = deliver-served c (z .controlled) in
+      ap (λ (t : Turn). heldAt (t .board .controller .entries) p) s
+      ∙ ap (λ (t : ControllerTurn). heldAt (t .controller .entries) p) (sym (deliver-is c ∙ d))
+      ∙ controller-held-lost c (z .sized) p l h (z .controlled) deliverCall
+      (controller-delivered (ap (λ (t : ControllerTurn). t .answer) d ∙ sym (ap (λ (t : Turn). t .answer) s) ∙ e))
+  held-lost _ (made-level v i u t) =
+      ap (λ (t : Turn). heldAt (t .board .controller .entries) p) (served b (call.Write 0 4 0x10 v) (formed-out b z))
+      ∙ ap (λ (t : ControllerTurn). heldAt (t .controller .entries) p) (sym (write-served c (z .controlled) 4 0x10 v))
+      ∙ controller-held-lost c (z .sized) p l h (z .controlled) (writeCall 4 0x10 v) (controller-made-level 4 0x10 v refl refl i u t)
+
+-- any sequence of calls of which none loses it keeps it too
 unfoldable pub NoneLoses : Board → ℕ → List Call → Type 0
 NoneLoses b p [] = Unit
 NoneLoses b p (k ∷ ks) = (Loses b p k → ⊥) × NoneLoses (turnOf b k .board) p ks

@@ -24,7 +24,7 @@ use Rattle.entries.specs.Word.{levelOf}
 use Rattle.entries.specs.Table.{levelsOk, firstEligible, eligibleAt, heldAt, wired, ended, given, taken, lowShown, lowWritten, highWritten}
 use Rattle.entries.proofs.Sized.{Sized}
 use Rattle.entries.proofs.Pulse.{wired-keeps}
-use Rattle.entries.proofs.Delivery.{Lowest, first-le-24, lowest-found, lowest-of, none-eligible, none-eligible-of, ended-held, taken-held, low-written-held-other, low-written-held, bit-12}
+use Rattle.entries.proofs.Delivery.{Lowest, first-le-24, lowest-found, lowest-of, none-eligible, none-eligible-of, ended-held, taken-held, low-written-held-other, low-written-held, taken-held-own, low-written-held-dropped, held-edge, bit-12}
 use Rattle.controller.specs.declared.Controller.{Controller}
 use Rattle.controller.specs.declared.Turn.{Turn}
 use Rattle.controller.specs.State.{withId, withIndex, withEntries, wellFormed, turn, refused, tested}
@@ -295,6 +295,25 @@ module _ (c : Controller) (z : Sized (c .entries)) (p : ℕ) (l : p < 24) (h : h
           other (no q) = taken-held (c .entries) (firstEligible (c .entries)) p q ∙ h
       go true x false y = h
       go false x a y = h
+
+  low-index : c .index ≡ 0x10 + 2 * p → (v : ℕ) → dataWritten c v ≡ withEntries c (lowWritten (c .entries) p v)
+  unfolding dataWritten
+  low-index at v =
+      let half : (0x10 + 2 * p - 0x10) / 2 ≡ p = omega arith in
+      let even : (0x10 + 2 * p - 0x10) % 2 ≡ 0 = omega arith in
+      rw (at, ne-eqb (0x10 + 2 * p) 0 (omega arith), le-ltb (0x10 + 2 * p) 0x10 (omega arith), lt-leb 0x40 (0x10 + 2 * p) (omega arith), even, half)
+
+  module _ (f : wellFormed c ≡ true) where
+    -- … and each of the two loses it
+    pub held-lost : (k : Call) → Loses c p k → heldAt (turnOf c k .controller .entries) p ≡ 0
+    unfolding turnOf writeOf writingOf
+    held-lost _ (delivered e) =
+        let r = delivers-only-if c p e in
+        ap (λ (t : Turn). heldAt (t .controller .entries) p) (delivers-if c p f l (r .2))
+        ∙ taken-held-own (c .entries) z p l (held-edge (c .entries) (formed c f .entries) p l h)
+    held-lost _ (made-level w o v x y i u t) =
+        rw (f, x, y, lt-ltb v (2 ^ 32) u, low-index i v)
+        (low-written-held-dropped (c .entries) z p v l t)
 
 -- ---- "Bit 12 reads 1 exactly for an eligible pin"
 
