@@ -6,4 +6,5 @@ pub mod Ticks
 pub mod Jumps
 pub mod Keeps
 pub mod Runs
+pub mod Held
 pub mod Demands

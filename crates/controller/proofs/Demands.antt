@@ -24,7 +24,7 @@ use Rattle.entries.specs.Word.{levelOf}
 use Rattle.entries.specs.Table.{levelsOk, firstEligible, eligibleAt, heldAt, wired, ended, given, taken, lowShown, lowWritten, highWritten}
 use Rattle.entries.proofs.Sized.{Sized}
 use Rattle.entries.proofs.Pulse.{wired-keeps}
-use Rattle.entries.proofs.Delivery.{Lowest, first-le-24, lowest-found, lowest-of, none-eligible, none-eligible-of, ended-held, taken-held, low-written-held-other, low-written-held, bit-12}
+use Rattle.entries.proofs.Delivery.{Lowest, first-le-24, lowest-found, lowest-of, none-eligible, none-eligible-of, ended-held, taken-held, low-written-held-other, low-written-held, taken-held-own, low-written-held-dropped, held-edge, bit-12}
 use Rattle.controller.specs.declared.Controller.{Controller}
 use Rattle.controller.specs.declared.Turn.{Turn}
 use Rattle.controller.specs.State.{withId, withIndex, withEntries, wellFormed, turn, refused, tested}
@@ -146,9 +146,21 @@ refused-not-nothing q = absurd (subst five (ap answerNumber q) tt)
     five n = T (eqb n 5)
 
 module _ (c : Controller) where
+  pub read-served : wellFormed c ≡ true → (width offset : ℕ) → readOf c width offset ≡ readingOf c width offset
+  unfolding readOf
+  read-served w width offset = rw w
+
+  pub write-served : wellFormed c ≡ true → (width offset value : ℕ) → turnOf c (write width offset value) ≡ writingOf c width offset value
+  unfolding turnOf writeOf
+  write-served w width offset value = rw w
+
   pub deliver-served : wellFormed c ≡ true → deliverOf c ≡ deliveringOf c
   unfolding deliverOf
   deliver-served w = rw w
+
+  pub deliver-is : turnOf c deliver ≡ deliverOf c
+  unfolding turnOf
+  deliver-is = refl
 
   abbrev e : Entries
   e = c .entries
@@ -193,10 +205,10 @@ module _ (c : Controller) where
 
 -- ---- "If it leaves the pin level, a held edge is dropped; otherwise the held edge stays, masked or not"; "An edge pin loses its held edge"
 
--- what loses pin p's held edge: its delivery, or a low-word write that leaves the pin level
+-- what loses pin p's held edge: its delivery, or a low-word write that leaves the pin level (a refused write loses nothing)
 pub data Loses (c : Controller) (p : ℕ) : Call → Type 0 where
   delivered : deliverOf c .answer ≡ given (c .entries) p → Loses c p deliver
-  made-level : (w o v : ℕ) → w ≡ 4 → o ≡ 0x10 → c .index ≡ 0x10 + 2 * p → levelOf v ≡ true → Loses c p (write w o v)
+  made-level : (w o v : ℕ) → w ≡ 4 → o ≡ 0x10 → c .index ≡ 0x10 + 2 * p → v < 2 ^ 32 → levelOf v ≡ true → Loses c p (write w o v)
 
 index-is : (i p : ℕ) → 0x10 ≤ i → (i - 0x10) % 2 ≡ 0 → p ≡ (i - 0x10) / 2 → i ≡ 0x10 + 2 * p
 index-is i p a b e = omega arith
@@ -235,18 +247,18 @@ module _ (c : Controller) (z : Sized (c .entries)) (p : ℕ) (l : p < 24) (h : h
       go : (b : Bool) → heldAt (cond b (readingOf c w o) (refused c refusal.State) .controller .entries) p ≡ 1
       go true = ap (λ (d : Controller). heldAt (d .entries) p) (reading-same c w o) ∙ h
       go false = h
-  held-kept (write w o v) f = go (wellFormed c) (eqb w 4) refl (eqb o 0) (eqb o 0x10) refl (ltb v (2 ^ 32))
+  held-kept (write w o v) f = go (wellFormed c) (eqb w 4) refl (eqb o 0) (eqb o 0x10) refl (ltb v (2 ^ 32)) refl
     where
       go :
-          (b a : Bool) → eqb w 4 ≡ a → (x y : Bool) → eqb o 0x10 ≡ y → (s : Bool) →
+          (b a : Bool) → eqb w 4 ≡ a → (x y : Bool) → eqb o 0x10 ≡ y → (s : Bool) → ltb v (2 ^ 32) ≡ s →
           heldAt (cond b (cond a (cond (x || y) (cond s (turn (cond x (withIndex c (v % 256)) (dataWritten c v)) answer.Done) (refused c refusal.Value)) (refused c refusal.Offset)) (refused c refusal.Width)) (refused c refusal.State) .controller .entries) p ≡ 1
-      go true true q true y r true = h
-      go true true q true y r false = h
-      go true true q false true r true = data-kept v (λ i t. f (made-level w o v (eqb-true w 4 q) (eqb-true o 0x10 r) i t))
-      go true true q false true r false = h
-      go true true q false false r s = h
-      go true false q x y r s = h
-      go false a q x y r s = h
+      go true true q true y r true u = h
+      go true true q true y r false u = h
+      go true true q false true r true u = data-kept v (λ i t. f (made-level w o v (eqb-true w 4 q) (eqb-true o 0x10 r) i (ltb-true v (2 ^ 32) u) t))
+      go true true q false true r false u = h
+      go true true q false false r s u = h
+      go true false q x y r s u = h
+      go false a q x y r s u = h
   held-kept (wire i x) f = go (wellFormed c) (ltb i 24) (leb x 1)
     where
       go :
@@ -283,6 +295,25 @@ module _ (c : Controller) (z : Sized (c .entries)) (p : ℕ) (l : p < 24) (h : h
           other (no q) = taken-held (c .entries) (firstEligible (c .entries)) p q ∙ h
       go true x false y = h
       go false x a y = h
+
+  low-index : c .index ≡ 0x10 + 2 * p → (v : ℕ) → dataWritten c v ≡ withEntries c (lowWritten (c .entries) p v)
+  unfolding dataWritten
+  low-index at v =
+      let half : (0x10 + 2 * p - 0x10) / 2 ≡ p = omega arith in
+      let even : (0x10 + 2 * p - 0x10) % 2 ≡ 0 = omega arith in
+      rw (at, ne-eqb (0x10 + 2 * p) 0 (omega arith), le-ltb (0x10 + 2 * p) 0x10 (omega arith), lt-leb 0x40 (0x10 + 2 * p) (omega arith), even, half)
+
+  module _ (f : wellFormed c ≡ true) where
+    -- … and each of the two loses it
+    pub held-lost : (k : Call) → Loses c p k → heldAt (turnOf c k .controller .entries) p ≡ 0
+    unfolding turnOf writeOf writingOf
+    held-lost _ (delivered e) =
+        let r = delivers-only-if c p e in
+        ap (λ (t : Turn). heldAt (t .controller .entries) p) (delivers-if c p f l (r .2))
+        ∙ taken-held-own (c .entries) z p l (held-edge (c .entries) (formed c f .entries) p l h)
+    held-lost _ (made-level w o v x y i u t) =
+        rw (f, x, y, lt-ltb v (2 ^ 32) u, low-index i v)
+        (low-written-held-dropped (c .entries) z p v l t)
 
 -- ---- "Bit 12 reads 1 exactly for an eligible pin"
 

@@ -98,6 +98,28 @@ low-written-held e z i v l t =
     getD-set-same (e .held) i (cond (levelOf (written (lowAt e i) v)) 0 (heldAt e i)) 0 (rw (z .held) l)
     ∙ ap (λ (b : Bool). cond b 0 (heldAt e i)) (level-written (lowAt e i) v ∙ t)
 
+-- … and these two drop it: a delivery of an edge pin, a low-word write that leaves the pin level
+
+pub taken-held-own : (e : Entries) → Sized e → (i : ℕ) → i < 24 → levelOf (lowAt e i) ≡ false → heldAt (taken e i) i ≡ 0
+unfolding taken
+taken-held-own e z i l t =
+    ap (λ (b : Bool). heldAt (cond b (withLow e (set (e .low) i (withRemote (lowAt e i)))) (withHeld e (set (e .held) i 0))) i) t
+    ∙ getD-set-same (e .held) i 0 0 (rw (z .held) l)
+
+pub low-written-held-dropped : (e : Entries) → Sized e → (i v : ℕ) → i < 24 → levelOf v ≡ true → heldAt (lowWritten e i v) i ≡ 0
+unfolding lowWritten
+low-written-held-dropped e z i v l t =
+    getD-set-same (e .held) i (cond (levelOf (written (lowAt e i) v)) 0 (heldAt e i)) 0 (rw (z .held) l)
+    ∙ ap (λ (b : Bool). cond b 0 (heldAt e i)) (level-written (lowAt e i) v ∙ t)
+
+-- a pin that holds an edge is an edge pin
+pub held-edge : (e : Entries) → entriesOk e ≡ true → (i : ℕ) → i < 24 → heldAt e i ≡ 1 → levelOf (lowAt e i) ≡ false
+held-edge e ok i l h = go (levelOf (lowAt e i)) refl
+  where
+    go : (b : Bool) → levelOf (lowAt e i) ≡ b → b ≡ false
+    go true t = clash (sym (eq-eqb (heldAt e i) 1 h) ∙ pins-good e ok i l .edge t)
+    go false t = refl
+
 -- ---- bit 12 reads 1 exactly for an eligible pin
 
 with-12 : (w : ℕ) → (w - w / 4096 % 2 * 4096 + 4096) / 4096 % 2 ≡ 1
