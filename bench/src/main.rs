@@ -18,11 +18,14 @@ use peer::generate::{self, random_board, Profile};
 use peer::log::{records_of, replay, Record, LONGEST};
 use peer::random::Random;
 use rows::Taker;
-use table::Table;
+use table::{Advances, Table};
 
 const HELP: &str = "\
 bench
     Times the library's calls and its replay beside plain Rust: one table, then the limits.
+bench limits
+    Times the advances alone, for some seconds, and checks only the two limits that compare the
+    library with itself: they hold on every machine. The ratios to plain Rust are shown.
 bench counts
     Counts the instructions of the same calls with valgrind's callgrind: one table.
 bench once SIDE CALL
@@ -39,12 +42,15 @@ Exit status: 0 all limits hold, 1 some don't, 2 something is missing.
 
 /// How often `once` makes its call.
 const TIMES: u32 = 1_000;
+/// How often `limits` times the advances, one after the other; the best counts.
+const SWEEPS: u32 = 10;
 
 fn main() -> ExitCode {
     let words: Vec<String> = std::env::args().skip(1).collect();
     let words: Vec<&str> = words.iter().map(String::as_str).collect();
     let result = match words.as_slice() {
         [] => measure(),
+        ["limits"] => limits(),
         ["counts"] => counts::print().map(|()| true),
         ["once", side @ ("library" | "plain"), name] => once(*side == "library", name),
         ["replay", file] => replay_plainly(file),
@@ -71,6 +77,15 @@ fn measure() -> Result<bool, String> {
     rows::each(&mut table);
     time_replays(&table, &program)?;
     Ok(table.check_limits())
+}
+
+fn limits() -> Result<bool, String> {
+    check_plain()?;
+    let mut advances = Advances::new();
+    for _ in 0..SWEEPS {
+        rows::each(&mut advances);
+    }
+    Ok(advances.check_limits())
 }
 
 /// Plain Rust and the library have to do the same as the model, or the times say nothing.

@@ -49,21 +49,70 @@ impl Table {
 
     /// Says which limits hold; answers whether all do.
     pub fn check_limits(&self) -> bool {
-        let one = self.library(ADVANCE_ONE);
-        let idle = self.library(ADVANCE_IDLE) / one;
-        let busy = self.library(ADVANCE_BUSY) / one;
         let slowest = self.calls.iter().max_by(|a, b| a.1.ratio().total_cmp(&b.1.ratio()));
         let (name, pair) = slowest.expect("there are rows");
         println!();
-        let limits = [
-            limit("full advance with nothing due, over advance by 1", idle, 1.5),
-            limit("full advance with 3 x 4,294,967,295 firings, over it", busy, 10.0),
-            limit(&format!("call slowest against plain Rust ({name})"), pair.ratio(), 2.0),
-        ];
-        let holding = limits.iter().filter(|&&holds| holds).count();
-        println!("{holding} passed, {} failed", limits.len() - holding);
-        holding == limits.len()
+        let [idle, busy] = advance_limits(|name| self.library(name));
+        let plain = limit(&format!("call slowest against plain Rust ({name})"), pair.ratio(), 2.0);
+        sum_up(&[idle, busy, plain])
     }
+}
+
+/// The advances alone. A row that comes again keeps its best times.
+pub struct Advances {
+    best: [(&'static str, Pair); 3],
+}
+
+impl Taker for Advances {
+    fn take(
+        &mut self,
+        name: &'static str,
+        start: &Board,
+        again: impl Fn(&mut Board),
+        library: impl Fn(&mut Board),
+        plain: impl Fn(&mut Board),
+    ) {
+        if let Some((_, best)) = self.best.iter_mut().find(|(row, _)| *row == name) {
+            *best = best.better(time::calls(start, again, library, plain));
+        }
+    }
+}
+
+impl Advances {
+    /// Nothing timed yet.
+    pub fn new() -> Advances {
+        Advances { best: [ADVANCE_ONE, ADVANCE_IDLE, ADVANCE_BUSY].map(|row| (row, Pair::WORST)) }
+    }
+
+    /// Prints the rows, and says which of the two limits hold; answers whether both do.
+    pub fn check_limits(&self) -> bool {
+        let table = Table::new();
+        for (name, pair) in self.best {
+            table.print(name, pair);
+        }
+        println!();
+        sum_up(&advance_limits(|name| {
+            let row = self.best.iter().find(|(row, _)| *row == name);
+            row.expect("it is one of the three").1.library
+        }))
+    }
+}
+
+/// The two limits on the library's advances, from their times by name.
+fn advance_limits(time: impl Fn(&str) -> f64) -> [bool; 2] {
+    let one = time(ADVANCE_ONE);
+    let (idle, busy) = (time(ADVANCE_IDLE) / one, time(ADVANCE_BUSY) / one);
+    [
+        limit("full advance with nothing due, over advance by 1", idle, 1.5),
+        limit("full advance with 3 x 4,294,967,295 firings, over it", busy, 10.0),
+    ]
+}
+
+/// Prints how many hold; answers whether all do.
+fn sum_up(limits: &[bool]) -> bool {
+    let holding = limits.iter().filter(|&&holds| holds).count();
+    println!("{holding} passed, {} failed", limits.len() - holding);
+    holding == limits.len()
 }
 
 fn limit(name: &str, ratio: f64, most: f64) -> bool {

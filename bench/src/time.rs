@@ -23,6 +23,14 @@ pub struct Pair {
 }
 
 impl Pair {
+    /// No time yet.
+    pub const WORST: Pair = Pair { library: f64::MAX, plain: f64::MAX };
+
+    /// The better of the two times on each side.
+    pub fn better(self, other: Pair) -> Pair {
+        Pair { library: self.library.min(other.library), plain: self.plain.min(other.plain) }
+    }
+
     /// How many times as long the library takes.
     pub fn ratio(&self) -> f64 {
         self.library / self.plain
@@ -44,7 +52,7 @@ pub fn calls(
         again(board);
         plain(board);
     });
-    let mut best = Pair { library: f64::MAX, plain: f64::MAX };
+    let mut best = Pair::WORST;
     for _ in 0..ROUNDS {
         best.library = best.library.min(library.round());
         best.plain = best.plain.min(plain.round());
@@ -84,7 +92,7 @@ impl<'start, Run: Fn(&mut Board)> Side<'start, Run> {
 
 /// Times two commands, each with a file as its last argument.
 pub fn programs(library: &[&str], plain: &[&str], file: &str) -> Result<Pair, String> {
-    let mut best = Pair { library: f64::MAX, plain: f64::MAX };
+    let mut best = Pair::WORST;
     for _ in 0..RUNS {
         best.library = best.library.min(run(library, file)?);
         best.plain = best.plain.min(run(plain, file)?);
