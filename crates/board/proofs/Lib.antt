@@ -6,3 +6,4 @@ pub mod Ticks
 pub mod Jumps
 pub mod Keeps
 pub mod Demands
+pub mod Leaves
