@@ -8,3 +8,4 @@ pub mod Keeps
 pub mod Runs
 pub mod Held
 pub mod Demands
+pub mod Leaves

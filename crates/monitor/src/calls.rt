@@ -1,10 +1,12 @@
 // The board's calls by value, with the answer as numbers.
 ghost use mathlib.Core.Path.{_≡_};
+ghost use Rattle.answers.specs.Numbers.{numbersOf};
 ghost use Rattle.board.specs.declared.Call.the-variants as call;
 ghost use Rattle.board.specs.Step.{turnOf};
 ghost use Rattle.monitor.specs.Lent.{outOf, resetTurn};
 use crate::Out;
 use answers::Answer;
+use answers::Numbers;
 use board::Board;
 use board::Turn;
 
@@ -28,10 +30,13 @@ pub fn reset(_b: Board) -> Out
     }
 }
 
-pub fn read(b: Board, window: u64, width: u64, offset: u64) -> Out
-    ensures { λ r. ⌜ r ≡ outOf (turnOf b (call.Read window width offset)) ⌝ }
+// A read leaves the board, so only the numbers come back.
+pub fn read(b: Board, window: u64, width: u64, offset: u64) -> Numbers
+    ensures { λ r. ⌜ r ≡ numbersOf (turnOf b (call.Read window width offset) .answer) ⌝ }
 {
-    out(b.read(window, width, offset))
+    let turn = b.read(window, width, offset);
+    let answer = turn.answer;
+    answer.numbers()
 }
 
 pub fn write(b: Board, window: u64, width: u64, offset: u64, value: u64) -> Out

@@ -24,14 +24,13 @@ pub extern "C" fn nataqvoju_reset(b: &mut Board) -> Numbers
     o.numbers
 }
 
+// Nothing is stored: a read leaves the board.
 #[no_mangle]
 pub extern "C" fn nataqvoju_read(b: &mut Board, window: u64, width: u64, offset: u64) -> Numbers
     ensures { λ r. ⌜ Gives (turnOf (now (b .entry)) (call.Read window width offset)) (now (b .exit)) r ⌝ }
 {
     let s = *b;
-    let o = calls::read(s, window, width, offset);
-    *b = o.board;
-    o.numbers
+    calls::read(s, window, width, offset)
 }
 
 #[no_mangle]

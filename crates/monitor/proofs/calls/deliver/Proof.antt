@@ -8,15 +8,15 @@ use Rattle.monitor.proofs.calls.deliver.Lts as lts
 use Rattle.board.proofs.Board.deliver.Reads as deliver-reads
 use Rattle.monitor.proofs.calls.out.Reads as out-reads
 
--- src/calls.rt:64:9
+-- src/calls.rt:69:9
 deliver-requires : tie.Need-deliver-requires
 deliver-requires c κs = search needs
 
--- src/calls.rt:64:5
+-- src/calls.rt:69:5
 out-requires : tie.Need-out-requires
 out-requires c κs = search needs
 
--- src/calls.rt:61:1
+-- src/calls.rt:66:1
 returns : tie.Need-returns
 returns c = c .out .ensures ∙ ap outOf (c .before .deliver .ensures)
 

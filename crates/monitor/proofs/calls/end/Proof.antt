@@ -8,15 +8,15 @@ use Rattle.monitor.proofs.calls.end.Lts as lts
 use Rattle.board.proofs.Board.end.Reads as end-reads
 use Rattle.monitor.proofs.calls.out.Reads as out-reads
 
--- src/calls.rt:52:9
+-- src/calls.rt:57:9
 end-requires : tie.Need-end-requires
 end-requires c κs = search needs
 
--- src/calls.rt:52:5
+-- src/calls.rt:57:5
 out-requires : tie.Need-out-requires
 out-requires c κs = search needs
 
--- src/calls.rt:49:1
+-- src/calls.rt:54:1
 returns : tie.Need-returns
 returns c = c .out .ensures ∙ ap outOf (c .before .end .ensures)
 

@@ -1,24 +1,25 @@
 use mathlib.Core.Path.{ap, _∙_}
-use Rattle.monitor.specs.Lent.{outOf}
+use Rattle.answers.specs.Numbers.{numbersOf}
+use Rattle.board.specs.declared.Turn.{Turn}
 use borrow.Author.Needs.{needs}
 use Rattle.monitor.proofs.calls.read.Statement.{statement}
 use Rattle.monitor.proofs.calls.read.Tie as tie
 use Rattle.monitor.proofs.calls.read.Reads as reads
 use Rattle.monitor.proofs.calls.read.Lts as lts
+use Rattle.answers.proofs.Answer.numbers.Reads as numbers-reads
 use Rattle.board.proofs.Board.read.Reads as read-reads
-use Rattle.monitor.proofs.calls.out.Reads as out-reads
 
--- src/calls.rt:34:9
+-- src/calls.rt:37:16
 read-requires : tie.Need-read-requires
 read-requires c κs = search needs
 
--- src/calls.rt:34:5
-out-requires : tie.Need-out-requires
-out-requires c κs = search needs
+-- src/calls.rt:39:5
+numbers-requires : tie.Need-numbers-requires
+numbers-requires c κs = search needs
 
--- src/calls.rt:31:1
+-- src/calls.rt:34:1
 returns : tie.Need-returns
-returns c = c .out .ensures ∙ ap outOf (c .before .read .ensures)
+returns c = c .numbers .ensures ∙ ap (λ (t : Turn). numbersOf (t .answer)) (c .before .read .ensures)
 
 pub read-spec : {M : Type 1} → statement M
-read-spec = tie.close (tie.spec read-requires out-requires returns)
+read-spec = tie.close (tie.spec read-requires numbers-requires returns)

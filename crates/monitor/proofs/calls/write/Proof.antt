@@ -8,15 +8,15 @@ use Rattle.monitor.proofs.calls.write.Lts as lts
 use Rattle.board.proofs.Board.write.Reads as write-reads
 use Rattle.monitor.proofs.calls.out.Reads as out-reads
 
--- src/calls.rt:40:9
+-- src/calls.rt:45:9
 write-requires : tie.Need-write-requires
 write-requires c κs = search needs
 
--- src/calls.rt:40:5
+-- src/calls.rt:45:5
 out-requires : tie.Need-out-requires
 out-requires c κs = search needs
 
--- src/calls.rt:37:1
+-- src/calls.rt:42:1
 returns : tie.Need-returns
 returns c = c .out .ensures ∙ ap outOf (c .before .write .ensures)
 
