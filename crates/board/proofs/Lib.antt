@@ -1,5 +1,6 @@
 pub mod Rule
 pub mod Formed
+pub mod Wire
 pub mod Fire
 pub mod Turns
 pub mod Ticks

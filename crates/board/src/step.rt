@@ -83,7 +83,9 @@ impl Board {
         self.refused(Refusal::Window)
     }
 
+    // One wire changes, so one pin can: the board is well formed, and its other levels are the rule's already.
     fn wiring(self, pin: u64, level: u64) -> Turn
+        requires { ⌜ wellFormed self ≡ true ⌝ }
         ensures { λ r. ⌜ r ≡ wiringOf self pin level ⌝ }
     {
         if Controller::PINS <= pin {
@@ -97,8 +99,13 @@ impl Board {
         let timers = self.timers;
         let mut outside = self.outside;
         outside[n] = level as u8;
+        let high = (level == 1) | timers.drives(pin as u16);
         Turn {
-            board: Board::joined(c, timers, outside),
+            board: Board {
+                timers,
+                controller: c.rewired_at(n, high as u8),
+                outside,
+            },
             answer: Answer::Done,
         }
     }

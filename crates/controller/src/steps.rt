@@ -1,6 +1,6 @@
 // Wires, end of interrupt, delivery.
 ghost use mathlib.Core.Path.{_≡_};
-ghost use Rattle.controller.specs.Steps.{rewired, wiresOf, wireOf, afterEnd, endOf, deliveringOf, deliverOf};
+ghost use Rattle.controller.specs.Steps.{rewired, rewiredAt, wiresOf, wireOf, afterEnd, endOf, deliveringOf, deliverOf};
 use crate::Controller;
 use crate::Turn;
 use answers::Answer;
@@ -18,6 +18,16 @@ impl Controller {
         let entries = self.entries;
         let mut next = self;
         next.entries = entries.wired(levels);
+        next
+    }
+
+    // One wire changes.
+    pub fn rewired_at(self, n: usize, level: u8) -> Controller
+        ensures { λ r. ⌜ r ≡ rewiredAt self n level ⌝ }
+    {
+        let entries = self.entries;
+        let mut next = self;
+        next.entries = entries.wired_at(n, level);
         next
     }
 

@@ -16,7 +16,7 @@ use Rattle.pins.proofs.Fill.{getD-tab, length-tab}
 use Rattle.entries.specs.declared.Entries.{Entries}
 use Rattle.entries.specs.Word.{levelOf, maskedOf, activeLowOf}
 use Rattle.entries.specs.Pin.{asserted, makesEdge, heldAfter}
-use Rattle.entries.specs.Table.{lowAt, levelAt, heldAt, withHeld, withLevel, entriesOk, levelsOk, wired, pulsed}
+use Rattle.entries.specs.Table.{lowAt, levelAt, heldAt, withHeld, withLevel, entriesOk, levelsOk, wired, wiredAt, pulsed}
 use Rattle.entries.proofs.Sized.{Sized, wired-sized}
 use Rattle.entries.proofs.Formed.{levels-at, levels-of, wired-ok}
 
@@ -235,3 +235,22 @@ pulsed-level e l p = wired-level (wired e (set l p 1)) l
 pub pulsed-is : (e : Entries) (l : List ℕ) (p : ℕ) → pulsed e l p ≡ wired (wired e (set l p 1)) l
 unfolding pulsed
 pulsed-is e l p = refl
+
+-- ---- a change of one wire is a change at one pin
+
+module _ (e : Entries) (z : Sized e) (p : ℕ) (k : p < 24) (x : ℕ) where
+  pub wired-one : wired e (set (e .level) p x) ≡ wiredAt e p x
+  unfolding wired wiredAt
+  wired-one =
+      ap (λ (h : List ℕ). withLevel (withHeld e h) (set (e .level) p x))
+      (ext-getD 0 (pins (edges e (set (e .level) p x))) (set (e .held) p new) (length-tab (edges e (set (e .level) p x)) 0 24 ∙ sym (length-set (e .held) p new ∙ z .held))
+      (λ i j.
+      let l : i < 24 = rw (length-tab (edges e (set (e .level) p x)) 0 24) at j in
+      getD-tab (edges e (set (e .level) p x)) 24 i 0 l ∙ go i (ℕ-discrete i p)))
+    where
+      new : ℕ
+      new = heldAfter (lowAt e p) (levelAt e p) x (heldAt e p)
+
+      go : (i : ℕ) → Dec (i ≡ p) → edges e (set (e .level) p x) i ≡ getD (set (e .held) p new) i 0
+      go i (yes q) = rw (q, getD-set-same (e .level) p x 0 (rw (z .level) k), getD-set-same (e .held) p new 0 (rw (z .held) k))
+      go i (no n) = rw (getD-set-other (e .level) p i x 0 n, getD-set-other (e .held) p i new 0 n) (held-same (lowAt e i) (levelAt e i) (heldAt e i))

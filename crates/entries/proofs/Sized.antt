@@ -9,7 +9,7 @@ use Rattle.pins.proofs.Fill.{length-tab}
 use Rattle.entries.specs.declared.Entries.{Entries}
 use Rattle.entries.specs.Word.{modeOf, maskedOf, levelOf, remoteOf, withRemote, written, shown}
 use Rattle.entries.specs.Pin.{heldAfter, asserted, eligible, endedWord}
-use Rattle.entries.specs.Table.{lowAt, destinationAt, levelAt, heldAt, withLow, withHeld, wired, pulsed, ended, taken, lowShown, lowWritten, highWritten, heldAfterWrite, destinationOf}
+use Rattle.entries.specs.Table.{lowAt, destinationAt, levelAt, heldAt, withLow, withHeld, withLevel, wired, wiredAt, pulsed, ended, taken, lowShown, lowWritten, highWritten, heldAfterWrite, destinationOf}
 
 pub record Sized (e : Entries) : Type 0 where
   pub low : length (e .low) ≡ 24
@@ -60,6 +60,13 @@ module _ (e : Entries) (z : Sized e) where
 
     held-above : heldAt e n ≡ 0
     held-above = List·getD-eq-default (e .held) 0 (past (e .held) (z .held))
+
+    pub wired-at-above : (x : ℕ) → wiredAt e n x ≡ e
+    unfolding wiredAt
+    wired-at-above x =
+        ap₂ (λ (h l : List ℕ). withLevel (withHeld e h) l)
+        (set-out (e .held) n (heldAfter (lowAt e n) (levelAt e n) x (heldAt e n)) (past (e .held) (z .held)))
+        (set-out (e .level) n x (past (e .level) (z .level)))
 
     pub taken-above : taken e n ≡ e
     unfolding taken levelOf

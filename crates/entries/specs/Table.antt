@@ -70,6 +70,10 @@ eligiblePins e = bitsOf (eligibleAt e)
 unfoldable pub wired : Entries → List ℕ → Entries
 wired e l = withLevel (withHeld e (pins (λ i. heldAfter (lowAt e i) (levelAt e i) (getD l i 0) (heldAt e i)))) l
 
+-- the same where only pin p's wire changes: only inner functions cite it
+unfoldable pub wiredAt : Entries → ℕ → ℕ → Entries
+wiredAt e p x = withLevel (withHeld e (set (e .held) p (heldAfter (lowAt e p) (levelAt e p) x (heldAt e p)))) (set (e .level) p x)
+
 -- pin p's wire raised from the levels l and dropped again, two steps
 unfoldable pub pulsed : Entries → List ℕ → ℕ → Entries
 pulsed e l p = wired (wired e (set l p 1)) l

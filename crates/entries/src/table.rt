@@ -1,6 +1,6 @@
 // The 24 entries, and what each step makes of them.
 ghost use mathlib.Core.Path.{_≡_};
-ghost use Rattle.entries.specs.Table.{resetEntries, entriesOk, levelsOk, firstEligible, eligiblePins, lowAt, destinationAt, wired, ended, given, taken, lowShown, highShown, lowWritten, highWritten};
+ghost use Rattle.entries.specs.Table.{resetEntries, entriesOk, levelsOk, firstEligible, eligiblePins, lowAt, destinationAt, wired, wiredAt, ended, given, taken, lowShown, highShown, lowWritten, highWritten};
 use crate::Entries;
 use crate::Low;
 use answers::Answer;
@@ -80,6 +80,19 @@ impl Entries {
             i += 1;
         }
         next.level = levels;
+        next
+    }
+
+    // One wire changes. There is no pin above 23.
+    pub fn wired_at(self, n: usize, level: u8) -> Entries
+        ensures { λ r. ⌜ r ≡ wiredAt self n level ⌝ }
+    {
+        if Entries::PINS <= n {
+            return self;
+        }
+        let mut next = self;
+        next.held[n] = Low(self.low[n]).held_after(self.level[n], level, self.held[n]);
+        next.level[n] = level;
         next
     }
 

@@ -16,7 +16,7 @@ well-formed-requires c κs = search needs
 
 -- src/step.rt:157:13
 wiring-requires : tie.Need-wiring-requires
-wiring-requires c κs = search needs
+wiring-requires c κs = sym (c .before .well-formed .ensures) ∙ c .if1 .taken
 
 -- src/step.rt:159:13
 refused-requires : tie.Need-refused-requires
