@@ -1,6 +1,8 @@
 use mathlib.Core.Path.{_≡_, refl, sym, ap, _∙_}
 use borrow.Author.Tests.{not-true, not-false, lt-ltb, le-ltb, le-leb, lt-leb, eq-eqb, ne-eqb}
-use Rattle.board.specs.Tick.{tick, upTo}
+use Rattle.timers.specs.declared.Timers.{Timers}
+use Rattle.board.specs.State.{board}
+use Rattle.board.specs.Tick.{turned, upTo, tick}
 use borrow.Author.Needs.{needs}
 use Rattle.board.proofs.Board.tick.Statement.{statement}
 use Rattle.board.proofs.Board.tick.Tie as tie
@@ -33,7 +35,13 @@ turned-requires-3 c κs = search needs
 -- src/tick.rt:62:5
 returns-2 : tie.Need-returns-2
 unfolding tick upTo
-returns-2 c = rw (eq-eqb _ _ (c .before .before .before .before .if1 .left), ← (c .before .before .before .counted .ensures), ← (c .before .before .turned .ensures), ← (c .before .turned2 .ensures)) (c .turned3 .ensures)
+returns-2 c =
+    let b = c .before .before .before .before .before .before .before .before .before .args .self in
+    rw (eq-eqb _ _ (c .before .before .before .before .if1 .left))
+    (c .turned3 .ensures
+    ∙ ap (turned 2)
+    (c .before .turned2 .ensures
+    ∙ ap (turned 1) (c .before .before .turned .ensures ∙ ap (λ (s : Timers). turned 0 (board (b .controller) s (b .outside))) (c .before .before .before .counted .ensures))))
 
 pub tick-spec : {M : Type 1} → statement M
 tick-spec =
