@@ -2,4 +2,5 @@ pub mod Fields
 pub mod Sized
 pub mod Formed
 pub mod Pulse
+pub mod Apart
 pub mod Delivery

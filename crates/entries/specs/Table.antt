@@ -1,14 +1,14 @@
 -- The 24 entries with their pins' wires and held edges, and what each step makes of them (document 01, "Controller registers").
 use Prim.Native.Nat.{ℕ, _*_, _/_, _^_}
-use mathlib.Core.Bool.{Bool, cond}
+use mathlib.Core.Bool.{Bool, cond, not, _&&_}
 use mathlib.Core.List.{List}
-use lib.Dec.{leb}
+use lib.Dec.{leb, eqb}
 use lib.ListN.{getD, replicate, set}
 use Rattle.pins.specs.Pins.{pins, first, every, bitsOf}
 use Rattle.answers.specs.declared.Answer.{Answer}
 use Rattle.answers.specs.declared.Answer.the-variants as answer
 use Rattle.entries.specs.declared.Entries.{Entries}
-use Rattle.entries.specs.Word.{vectorOf, logicalOf, levelOf, withRemote, written, shown}
+use Rattle.entries.specs.Word.{vectorOf, logicalOf, levelOf, withRemote, written, shown, wordOk}
 use Rattle.entries.specs.Pin.{heldAfter, eligible, endedWord, pinOk}
 
 -- every low word 0x00010000, high 0, wires low
@@ -48,6 +48,13 @@ eligibleAt e i = eligible (lowAt e i) (levelAt e i) (heldAt e i)
 
 abbrev pub pinOkAt : Entries → ℕ → Bool
 pinOkAt e i = pinOk (lowAt e i) (levelAt e i) (heldAt e i)
+
+-- the same in parts: only inner functions cite them
+unfoldable pub wordsOk : List ℕ → Bool
+wordsOk w = every (λ i. wordOk (getD w i 0))
+
+unfoldable pub edgesOk : List ℕ → List ℕ → Bool
+edgesOk w h = every (λ i. not (levelOf (getD w i 0) && eqb (getD h i 0) 1))
 
 unfoldable pub entriesOk : Entries → Bool
 entriesOk e = every (pinOkAt e)

@@ -1,6 +1,6 @@
 // One pin: its low word with the level of its wire and its held edge.
 ghost use mathlib.Core.Path.{_≡_};
-ghost use Rattle.entries.specs.Pin.{asserted, makesEdge, heldAfter, eligible, endedWord, pinOk};
+ghost use Rattle.entries.specs.Pin.{asserted, makesEdge, heldAfter, eligible, endedWord};
 use crate::Low;
 
 impl Low {
@@ -43,11 +43,5 @@ impl Low {
         } else {
             self.0
         }
-    }
-
-    pub fn pin_ok(self, level: u8, held: u8) -> bool
-        ensures { λ r. ⌜ r ≡ pinOk (self .0) level held ⌝ }
-    {
-        self.word_ok() & !(self.is_level() & (held == 1)) & (level <= 1) & (held <= 1)
     }
 }

@@ -1,6 +1,8 @@
 // The 24 entries, and what each step makes of them.
+// An array is taken out of the entries before one of its elements is read or stored: a struct with an element of it indexed
+// is kept in memory and copied whole, one whose parts are only moved is not.
 ghost use mathlib.Core.Path.{_≡_};
-ghost use Rattle.entries.specs.Table.{resetEntries, entriesOk, levelsOk, firstEligible, eligiblePins, lowAt, destinationAt, wired, wiredAt, ended, given, taken, lowShown, highShown, lowWritten, highWritten};
+ghost use Rattle.entries.specs.Table.{resetEntries, wordsOk, edgesOk, entriesOk, levelsOk, firstEligible, eligiblePins, lowAt, destinationAt, wired, wiredAt, ended, given, taken, lowShown, highShown, lowWritten, highWritten};
 use crate::Entries;
 use crate::Low;
 use answers::Answer;
@@ -21,16 +23,41 @@ impl Entries {
         }
     }
 
-    pub fn well_formed(self) -> bool
-        ensures { λ r. ⌜ r ≡ entriesOk self ⌝ }
+    fn words_ok(low: [u32; 24]) -> bool
+        ensures { λ r. ⌜ r ≡ wordsOk low ⌝ }
     {
         let mut ok = true;
         let mut i: usize = 0;
         while i < Entries::PINS {
-            ok = ok & Low(self.low[i]).pin_ok(self.level[i], self.held[i]);
+            ok = ok & Low(low[i]).word_ok();
             i += 1;
         }
         ok
+    }
+
+    // No level pin holds an edge.
+    fn edges_ok(low: [u32; 24], held: [u8; 24]) -> bool
+        ensures { λ r. ⌜ r ≡ edgesOk low held ⌝ }
+    {
+        let mut ok = true;
+        let mut i: usize = 0;
+        while i < Entries::PINS {
+            ok = ok & !(Low(low[i]).is_level() & (held[i] == 1));
+            i += 1;
+        }
+        ok
+    }
+
+    // A test of its own for each kind of part, so that each loop is worked out in vectors of one width.
+    pub fn well_formed(self) -> bool
+        ensures { λ r. ⌜ r ≡ entriesOk self ⌝ }
+    {
+        let low = self.low;
+        let level = self.level;
+        let held = self.held;
+        Entries::words_ok(low)
+            & (Entries::edges_ok(low, held)
+                & (Entries::levels_ok(level) & Entries::levels_ok(held)))
     }
 
     pub fn levels_ok(levels: [u8; 24]) -> bool
@@ -48,9 +75,12 @@ impl Entries {
     pub fn first_eligible(self) -> usize
         ensures { λ r. ⌜ r ≡ firstEligible self ⌝ }
     {
+        let low = self.low;
+        let level = self.level;
+        let held = self.held;
         let mut i: usize = 0;
         while i < Entries::PINS {
-            if Low(self.low[i]).eligible(self.level[i], self.held[i]) {
+            if Low(low[i]).eligible(level[i], held[i]) {
                 return i;
             }
             i += 1;
@@ -61,11 +91,14 @@ impl Entries {
     pub fn eligible_pins(self) -> u32
         ensures { λ r. ⌜ r ≡ eligiblePins self ⌝ }
     {
+        let low = self.low;
+        let level = self.level;
+        let held = self.held;
         let mut mask: u32 = 0;
         let mut i: usize = Entries::PINS;
         while 0 < i {
             i -= 1;
-            mask = mask << 1 | Low(self.low[i]).eligible(self.level[i], self.held[i]) as u32;
+            mask = mask << 1 | Low(low[i]).eligible(level[i], held[i]) as u32;
         }
         mask
     }
@@ -73,14 +106,21 @@ impl Entries {
     pub fn wired(self, levels: [u8; 24]) -> Entries
         ensures { λ r. ⌜ r ≡ wired self levels ⌝ }
     {
-        let mut next = self;
+        let low = self.low;
+        let level = self.level;
+        let mut held = self.held;
         let mut i: usize = 0;
         while i < Entries::PINS {
-            next.held[i] = Low(self.low[i]).held_after(self.level[i], levels[i], self.held[i]);
+            held[i] = Low(low[i]).held_after(level[i], levels[i], held[i]);
             i += 1;
         }
-        next.level = levels;
-        next
+        let destination = self.destination;
+        Entries {
+            low,
+            destination,
+            level: levels,
+            held,
+        }
     }
 
     // One wire changes. There is no pin above 23.
@@ -90,22 +130,38 @@ impl Entries {
         if Entries::PINS <= n {
             return self;
         }
-        let mut next = self;
-        next.held[n] = Low(self.low[n]).held_after(self.level[n], level, self.held[n]);
-        next.level[n] = level;
-        next
+        let low = self.low;
+        let mut levels = self.level;
+        let mut held = self.held;
+        held[n] = Low(low[n]).held_after(levels[n], level, held[n]);
+        levels[n] = level;
+        let destination = self.destination;
+        Entries {
+            low,
+            destination,
+            level: levels,
+            held,
+        }
     }
 
     pub fn ended(self, vector: u8) -> Entries
         ensures { λ r. ⌜ r ≡ ended self vector ⌝ }
     {
-        let mut next = self;
+        let mut low = self.low;
         let mut i: usize = 0;
         while i < Entries::PINS {
-            next.low[i] = Low(self.low[i]).ended(vector);
+            low[i] = Low(low[i]).ended(vector);
             i += 1;
         }
-        next
+        let destination = self.destination;
+        let level = self.level;
+        let held = self.held;
+        Entries {
+            low,
+            destination,
+            level,
+            held,
+        }
     }
 
     // There is no pin above 23: from here on its words read as 0, and nothing changes.
@@ -114,17 +170,15 @@ impl Entries {
     fn low_at(self, n: usize) -> u32
         ensures { λ r. ⌜ r ≡ lowAt self n ⌝ }
     {
-        if n < Entries::PINS { self.low[n] } else { 0 }
+        let low = self.low;
+        if n < Entries::PINS { low[n] } else { 0 }
     }
 
     fn destination_at(self, n: usize) -> u8
         ensures { λ r. ⌜ r ≡ destinationAt self n ⌝ }
     {
-        if n < Entries::PINS {
-            self.destination[n]
-        } else {
-            0
-        }
+        let destination = self.destination;
+        if n < Entries::PINS { destination[n] } else { 0 }
     }
 
     // What a delivery of a pin gives.
@@ -147,14 +201,22 @@ impl Entries {
         if Entries::PINS <= n {
             return self;
         }
-        let low = Low(self.low[n]);
-        let mut next = self;
+        let mut words = self.low;
+        let mut held = self.held;
+        let low = Low(words[n]);
         if low.is_level() {
-            next.low[n] = low.with_remote();
+            words[n] = low.with_remote();
         } else {
-            next.held[n] = 0;
+            held[n] = 0;
         }
-        next
+        let destination = self.destination;
+        let level = self.level;
+        Entries {
+            low: words,
+            destination,
+            level,
+            held,
+        }
     }
 
     pub fn low_shown(self, n: usize) -> u32
@@ -163,8 +225,11 @@ impl Entries {
         if Entries::PINS <= n {
             return 0;
         }
-        let low = Low(self.low[n]);
-        low.shown(low.eligible(self.level[n], self.held[n]))
+        let words = self.low;
+        let level = self.level;
+        let held = self.held;
+        let low = Low(words[n]);
+        low.shown(low.eligible(level[n], held[n]))
     }
 
     pub fn high_shown(self, n: usize) -> u32
@@ -179,13 +244,21 @@ impl Entries {
         if Entries::PINS <= n {
             return self;
         }
-        let word = Low(self.low[n]).written(value);
-        let mut next = self;
-        next.low[n] = word;
+        let mut low = self.low;
+        let mut held = self.held;
+        let word = Low(low[n]).written(value);
+        low[n] = word;
         if Low(word).is_level() {
-            next.held[n] = 0;
+            held[n] = 0;
         }
-        next
+        let destination = self.destination;
+        let level = self.level;
+        Entries {
+            low,
+            destination,
+            level,
+            held,
+        }
     }
 
     pub fn high_written(self, n: usize, value: u32) -> Entries
@@ -194,8 +267,16 @@ impl Entries {
         if Entries::PINS <= n {
             return self;
         }
-        let mut next = self;
-        next.destination[n] = (value >> Entries::DESTINATION_AT) as u8;
-        next
+        let mut destination = self.destination;
+        destination[n] = (value >> Entries::DESTINATION_AT) as u8;
+        let low = self.low;
+        let level = self.level;
+        let held = self.held;
+        Entries {
+            low,
+            destination,
+            level,
+            held,
+        }
     }
 }

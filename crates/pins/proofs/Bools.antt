@@ -31,6 +31,12 @@ pub and-assoc : (a b c : Bool) → a && b && c ≡ a && (b && c)
 and-assoc true b c = refl
 and-assoc false b c = refl
 
+pub and-middle : (a b c d : Bool) → a && b && (c && d) ≡ a && c && (b && d)
+and-middle false b c d = refl
+and-middle true true c d = refl
+and-middle true false true d = refl
+and-middle true false false d = refl
+
 -- ---- not both
 
 pub not-both : (a b : Bool) → not (a && b) ≡ true → a ≡ true → b ≡ false

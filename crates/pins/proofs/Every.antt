@@ -1,10 +1,10 @@
 -- What holds at every pin: from the test to each pin, and back.
-use mathlib.Core.Path.{_≡_, refl, ap₂}
+use mathlib.Core.Path.{_≡_, refl, ap, ap₂, _∙_}
 use mathlib.Core.Bool.{Bool, true, _&&_}
 use Prim.Native.Nat.{ℕ, zero, suc, _+_, _<_, zero-le, suc-le-suc}
 use native.Mathlib.Nat.{not-suc-le-zero, le-of-suc-le-suc, add-zero, add-suc, suc-add, zero-add}
 use Rattle.pins.specs.Pins.{allFrom, every}
-use Rattle.pins.proofs.Bools.{and-left, and-right, and-both}
+use Rattle.pins.proofs.Bools.{and-left, and-right, and-both, and-middle}
 
 module _ (p : ℕ → Bool) where
   all-at : (at n i : ℕ) → allFrom p at n ≡ true → i < n → p (at + i) ≡ true
@@ -36,3 +36,12 @@ all-cong p q at (suc n) h =
 
 pub every-cong : (p q : ℕ → Bool) → ((i : ℕ) → i < 24 → p i ≡ q i) → every p ≡ every q
 every-cong p q h = all-cong p q 0 24 (λ i l. rw zero-add (h i l))
+
+-- two tests at every pin are one test after the other
+all-and : (p q : ℕ → Bool) (at n : ℕ) → allFrom (λ i. p i && q i) at n ≡ (allFrom p at n && allFrom q at n)
+unfolding allFrom
+all-and p q at zero = refl
+all-and p q at (suc n) = ap (λ (b : Bool). (p at && q at) && b) (all-and p q (suc at) n) ∙ and-middle (p at) (q at) (allFrom p (suc at) n) (allFrom q (suc at) n)
+
+pub every-and : (p q : ℕ → Bool) → every (λ i. p i && q i) ≡ (every p && every q)
+every-and p q = all-and p q 0 24

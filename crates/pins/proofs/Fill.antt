@@ -20,6 +20,16 @@ module _ {A : Type 0} (f : ℕ → A) where
   pub fill-more : (i : ℕ) (d : List A) → i < length d → set (tab f 0 i ++ drop i d) i (f i) ≡ tab f 0 (i + 1) ++ drop (i + 1) d
   fill-more i d l = rw add-one (ap (λ (k : ℕ). set (tab f 0 i ++ drop i d) i (f k)) (sym (zero-add i)) ∙ fill-from 0 i d l)
 
+  here-from : (at n : ℕ) (d : List A) (z : A) → n < length d → getD (tab f at n ++ drop n d) n z ≡ getD d n z
+  unfolding tab
+  here-from at n [] z l = absurd (not-suc-le-zero l)
+  here-from at zero (x ∷ d) z l = refl
+  here-from at (suc n) (x ∷ d) z l = here-from (suc at) n d z (le-of-suc-le-suc l)
+
+  -- what is there before it is the list's own
+  pub fill-here : (i : ℕ) (d : List A) (z : A) → i < length d → getD (tab f 0 i ++ drop i d) i z ≡ getD d i z
+  fill-here i d z l = here-from 0 i d z l
+
   -- at the list's length all are f's
   pub fill-all : (n : ℕ) (d : List A) → length d ≡ n → tab f 0 n ++ drop n d ≡ tab f 0 n
   fill-all n d e = ap (λ (t : List A). tab f 0 n ++ t) (drop-of-length-le d (le-of-eq e)) ∙ append-nil (tab f 0 n)

@@ -1,26 +1,26 @@
-use native.Mathlib.Omega.{arith}
 use mathlib.Core.Path.{_≡_, sym}
 use lib.ListN.{length, List·getD-eq-default}
+use native.Mathlib.Omega.{arith}
 use borrow.Author.Needs.{needs}
 use Rattle.entries.proofs.Entries.destination_at.Statement.{statement}
 use Rattle.entries.proofs.Entries.destination_at.Tie as tie
 use Rattle.entries.proofs.Entries.destination_at.Reads as reads
 use Rattle.entries.proofs.Entries.destination_at.Lts as lts
 
--- src/table.rt:111:13
-element-copy-out-result : tie.Need-element-copy-out-result
-element-copy-out-result c = search needs
+-- src/table.rt:181:32
+array-read-result : tie.Need-array-read-result
+array-read-result c = search needs
 
--- src/table.rt:107:5
+-- src/table.rt:177:5
 returns : tie.Need-returns
 returns c = search needs
 
--- src/table.rt:107:5
+-- src/table.rt:177:5
 returns-2 : tie.Need-returns-2
 returns-2 c =
-    let e = c .before .args .t1 in
+    let e = c .before .before .args .self in
     let long : length (e .destination) ≡ 24 = search needs in
     sym (List·getD-eq-default (e .destination) 0 (omega arith))
 
 pub destination-at-spec : {M : Type 1} → statement M
-destination-at-spec = tie.close (tie.spec element-copy-out-result returns returns-2)
+destination-at-spec = tie.close (tie.spec array-read-result returns returns-2)

@@ -1,4 +1,4 @@
-use mathlib.Core.Path.{_≡_, sym, ap, _∙_}
+use mathlib.Core.Path.{_≡_, sym}
 use lib.ListN.{length}
 use Rattle.entries.proofs.Sized.{high-written-above}
 use borrow.Author.Needs.{needs}
@@ -7,7 +7,7 @@ use Rattle.entries.proofs.Entries.high_written.Tie as tie
 use Rattle.entries.proofs.Entries.high_written.Reads as reads
 use Rattle.entries.proofs.Entries.high_written.Lts as lts
 
--- src/table.rt:182:13
+-- src/table.rt:268:13
 returns : tie.Need-returns
 returns c =
     let e = c .before .args .self in
@@ -17,17 +17,17 @@ returns c =
     let h : length (e .held) ≡ 24 = search needs in
     sym (high-written-above e (record { low = a; destination = b; level = d; held = h }) (c .before .args .n) (c .if1 .taken) (c .before .args .value))
 
--- src/table.rt:185:31
-cast-next : tie.Need-cast-next
-cast-next c = search needs
+-- src/table.rt:271:26
+cast-destination : tie.Need-cast-destination
+cast-destination c = search needs
 
--- src/table.rt:185:9
-element-write-next : tie.Need-element-write-next
-element-write-next c = search needs
+-- src/table.rt:271:9
+array-write-destination : tie.Need-array-write-destination
+array-write-destination c = search needs
 
--- src/table.rt:178:5
+-- src/table.rt:264:5
 returns-2 : tie.Need-returns-2
 returns-2 c = search needs
 
 pub high-written-spec : {M : Type 1} → statement M
-high-written-spec = tie.close (tie.spec returns cast-next element-write-next returns-2)
+high-written-spec = tie.close (tie.spec returns cast-destination array-write-destination returns-2)

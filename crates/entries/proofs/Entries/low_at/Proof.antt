@@ -1,30 +1,30 @@
-use native.Mathlib.Omega.{arith}
 use mathlib.Core.Path.{_≡_, sym}
 use lib.ListN.{length, List·getD-eq-default}
+use native.Mathlib.Omega.{arith}
 use borrow.Author.Needs.{needs}
 use Rattle.entries.proofs.Entries.low_at.Statement.{statement}
 use Rattle.entries.proofs.Entries.low_at.Tie as tie
 use Rattle.entries.proofs.Entries.low_at.Reads as reads
 use Rattle.entries.proofs.Entries.low_at.Lts as lts
 
--- src/table.rt:104:32
+-- src/table.rt:174:32
 mul-result : tie.Need-mul-result
 mul-result c = search needs
 
--- src/table.rt:104:32
-element-copy-out-result : tie.Need-element-copy-out-result
-element-copy-out-result c = search needs
+-- src/table.rt:174:32
+array-read-result : tie.Need-array-read-result
+array-read-result c = search needs
 
--- src/table.rt:101:5
+-- src/table.rt:170:5
 returns : tie.Need-returns
 returns c = search needs
 
--- src/table.rt:101:5
+-- src/table.rt:170:5
 returns-2 : tie.Need-returns-2
 returns-2 c =
-    let e = c .before .args .t1 in
+    let e = c .before .before .args .self in
     let long : length (e .low) ≡ 24 = search needs in
     sym (List·getD-eq-default (e .low) 0 (omega arith))
 
 pub low-at-spec : {M : Type 1} → statement M
-low-at-spec = tie.close (tie.spec mul-result element-copy-out-result returns returns-2)
+low-at-spec = tie.close (tie.spec mul-result array-read-result returns returns-2)

@@ -10,41 +10,41 @@ use Rattle.entries.proofs.Entries.low_shown.Lts as lts
 use Rattle.entries.proofs.Low.eligible.Reads as eligible-reads
 use Rattle.entries.proofs.Low.shown.Reads as shown-reads
 
--- src/table.rt:151:13
+-- src/table.rt:226:13
 returns : tie.Need-returns
 returns c =
-    let e = c .before .args .t1 in
+    let e = c .before .args .self in
     let a : length (e .low) ≡ 24 = search needs in
     let b : length (e .destination) ≡ 24 = search needs in
     let d : length (e .level) ≡ 24 = search needs in
     let h : length (e .held) ≡ 24 = search needs in
     sym (low-shown-above e (record { low = a; destination = b; level = d; held = h }) (c .before .args .n) (c .if1 .taken))
 
--- src/table.rt:153:23
-mul-t6 : tie.Need-mul-t6
-mul-t6 c = search needs
+-- src/table.rt:231:23
+mul-t8 : tie.Need-mul-t8
+mul-t8 c = search needs
 
--- src/table.rt:153:23
-element-copy-out-t9 : tie.Need-element-copy-out-t9
-element-copy-out-t9 c = search needs
+-- src/table.rt:231:23
+array-read-t11 : tie.Need-array-read-t11
+array-read-t11 c = search needs
 
--- src/table.rt:154:32
-element-copy-out-eligible : tie.Need-element-copy-out-eligible
-element-copy-out-eligible c = search needs
+-- src/table.rt:232:32
+array-read-eligible : tie.Need-array-read-eligible
+array-read-eligible c = search needs
 
--- src/table.rt:154:47
-element-copy-out-eligible-2 : tie.Need-element-copy-out-eligible-2
-element-copy-out-eligible-2 c = search needs
+-- src/table.rt:232:42
+array-read-eligible-2 : tie.Need-array-read-eligible-2
+array-read-eligible-2 c = search needs
 
--- src/table.rt:154:19
+-- src/table.rt:232:19
 eligible-requires : tie.Need-eligible-requires
 eligible-requires c κs = search needs
 
--- src/table.rt:154:9
+-- src/table.rt:232:9
 shown-requires : tie.Need-shown-requires
 shown-requires c κs = search needs
 
--- src/table.rt:147:5
+-- src/table.rt:222:5
 returns-2 : tie.Need-returns-2
 unfolding lowShown
 returns-2 c = c .shown .ensures ∙ rw (c .before .eligible .ensures)
@@ -54,10 +54,10 @@ low-shown-spec =
     tie.close
     (tie.spec
     returns
-    mul-t6
-    element-copy-out-t9
-    element-copy-out-eligible
-    element-copy-out-eligible-2
+    mul-t8
+    array-read-t11
+    array-read-eligible
+    array-read-eligible-2
     eligible-requires
     shown-requires
     returns-2)

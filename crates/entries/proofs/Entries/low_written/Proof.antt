@@ -1,7 +1,8 @@
-use mathlib.Core.Path.{_≡_, sym, ap, _∙_}
+use mathlib.Core.Path.{_≡_, sym, ap, ap₂, _∙_}
+use mathlib.Core.Logic.{⊎-elim}
 use lib.ListN.{length}
-use Rattle.entries.proofs.Sized.{low-written-above}
 use lib.Seq.{set-getD}
+use Rattle.entries.proofs.Sized.{low-written-above}
 use Rattle.entries.specs.Table.{lowWritten}
 use borrow.Author.Needs.{needs}
 use Rattle.entries.proofs.Entries.low_written.Statement.{statement}
@@ -11,67 +12,66 @@ use Rattle.entries.proofs.Entries.low_written.Lts as lts
 use Rattle.entries.proofs.Low.is_level.Reads as is-level-reads
 use Rattle.entries.proofs.Low.written.Reads as written-reads
 
--- src/table.rt:167:13
+-- src/table.rt:245:13
 returns : tie.Need-returns
 returns c =
-    let e = c .before .args .t1 in
+    let e = c .before .args .self in
     let a : length (e .low) ≡ 24 = search needs in
     let b : length (e .destination) ≡ 24 = search needs in
     let d : length (e .level) ≡ 24 = search needs in
     let h : length (e .held) ≡ 24 = search needs in
     sym (low-written-above e (record { low = a; destination = b; level = d; held = h }) (c .before .args .n) (c .if1 .taken) (c .before .args .value))
 
--- src/table.rt:169:24
-mul-t8 : tie.Need-mul-t8
-mul-t8 c = search needs
+-- src/table.rt:249:24
+mul-t10 : tie.Need-mul-t10
+mul-t10 c = search needs
 
--- src/table.rt:169:24
-element-copy-out-t11 : tie.Need-element-copy-out-t11
-element-copy-out-t11 c = search needs
+-- src/table.rt:249:24
+array-read-t13 : tie.Need-array-read-t13
+array-read-t13 c = search needs
 
--- src/table.rt:169:13
+-- src/table.rt:249:13
 written-requires : tie.Need-written-requires
 written-requires c κs = search needs
 
--- src/table.rt:171:9
-mul-next : tie.Need-mul-next
-mul-next c = search needs
+-- src/table.rt:250:9
+mul-low : tie.Need-mul-low
+mul-low c = search needs
 
--- src/table.rt:171:9
-element-write-next : tie.Need-element-write-next
-element-write-next c = search needs
+-- src/table.rt:250:9
+array-write-low : tie.Need-array-write-low
+array-write-low c = search needs
 
--- src/table.rt:172:12
+-- src/table.rt:251:12
 is-level-requires : tie.Need-is-level-requires
 is-level-requires c κs = search needs
 
--- src/table.rt:173:13
-element-write-next-2 : tie.Need-element-write-next-2
-element-write-next-2 c = search needs
+-- src/table.rt:252:13
+array-write-held : tie.Need-array-write-held
+array-write-held c = search needs
 
--- src/table.rt:163:5
+-- src/table.rt:241:5
 returns-2 : tie.Need-returns-2
 unfolding lowWritten
-returns-2 c = rw (← (c .before .before .written .ensures), sym (c .before .is-level .ensures) ∙ c .if2 .taken)
-
--- src/table.rt:163:5
-returns-3 : tie.Need-returns-3
-unfolding lowWritten
-returns-3 c =
-    let e = c .before .before .before .before .before .args .t1 in
-    rw (← (c .before .before .written .ensures), sym (c .before .is-level .ensures) ∙ c .if2 .left, set-getD (e .held) (c .before .before .before .before .before .args .n) 0)
+returns-2 c =
+    let j = c .before .before in
+    let e = j .before .before .before .before .before .before .args .self in
+    let n = j .before .before .before .before .before .before .args .n in
+    ⊎-elim
+    (λ w. rw (w .1, ← (j .before .before .written .ensures), sym (j .before .is-level .ensures) ∙ w .0 .taken))
+    (λ w. rw (w .1, ← (j .before .before .written .ensures), sym (j .before .is-level .ensures) ∙ w .0 .left, set-getD (e .held) n 0))
+    (j .if2 .came)
 
 pub low-written-spec : {M : Type 1} → statement M
 low-written-spec =
     tie.close
     (tie.spec
     returns
-    mul-t8
-    element-copy-out-t11
+    mul-t10
+    array-read-t13
     written-requires
-    mul-next
-    element-write-next
+    mul-low
+    array-write-low
     is-level-requires
-    element-write-next-2
-    returns-2
-    returns-3)
+    array-write-held
+    returns-2)

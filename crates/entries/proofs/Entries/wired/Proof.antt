@@ -1,13 +1,12 @@
 use mathlib.Core.Path.{_≡_, refl, sym, ap, _∙_}
 use mathlib.Core.List.{List, _++_}
-use Prim.Native.Nat.{ℕ, _-_, _+_, _≤_}
+use Prim.Native.Nat.{ℕ, _-_, _≤_}
 use borrow.Author.Needs.{needs}
 use lib.ListN.{length, set, drop, getD}
 use Rattle.pins.specs.Pins.{tab}
-use Rattle.entries.specs.declared.Entries.{Entries}
+use Rattle.pins.proofs.Fill.{fill-more, fill-all, fill-here}
 use Rattle.entries.specs.Pin.{heldAfter}
-use Rattle.entries.specs.Table.{lowAt, levelAt, heldAt, withHeld, withLevel, wired}
-use Rattle.pins.proofs.Fill.{fill-more, fill-all}
+use Rattle.entries.specs.Table.{withHeld, withLevel, wired}
 use native.Mathlib.Omega.{arith}
 use Rattle.entries.proofs.Entries.wired.Statement.{statement}
 use Rattle.entries.proofs.Entries.wired.Tie as tie
@@ -15,81 +14,84 @@ use Rattle.entries.proofs.Entries.wired.Reads as reads
 use Rattle.entries.proofs.Entries.wired.Lts as lts
 use Rattle.entries.proofs.Low.held_after.Reads as held-after-reads
 
-abbrev after : Entries → List ℕ → ℕ → ℕ
-after e l i = heldAfter (lowAt e i) (levelAt e i) (getD l i 0) (heldAt e i)
+abbrev after : List ℕ → List ℕ → List ℕ → List ℕ → ℕ → ℕ
+after w l l′ h i = heldAfter (getD w i 0) (getD l i 0) (getD l′ i 0) (getD h i 0)
 
 abbrev Inv-loop : tie.InvT-loop
-Inv-loop self levels next₀ i₀ next i = (i ≤ 24) × (next ≡ withHeld self (tab (after self levels) 0 i ++ drop i (self .held)))
+Inv-loop self levels low level held₀ i₀ held i = (i ≤ 24) × (held ≡ tab (after low level levels held₀) 0 i ++ drop i held₀)
 
 abbrev μ-loop : tie.MeasureT-loop
-μ-loop self levels next₀ i₀ next i = 24 - i
+μ-loop self levels low level held₀ i₀ held i = 24 - i
 
--- src/table.rt:78:9
+-- src/table.rt:113:9
 loop-holds : tie.Need-loop-holds Inv-loop μ-loop
 unfolding tab
 loop-holds c = (omega arith, refl)
 
--- src/table.rt:79:32
-mul-t10 : tie.Need-mul-t10 Inv-loop μ-loop
-mul-t10 c = omega arith
+-- src/table.rt:114:27
+mul-t11 : tie.Need-mul-t11 Inv-loop μ-loop
+mul-t11 c = omega arith
 
--- src/table.rt:79:32
-element-copy-out-t13 : tie.Need-element-copy-out-t13 Inv-loop μ-loop
-element-copy-out-t13 c = omega arith
+-- src/table.rt:114:27
+array-read-t14 : tie.Need-array-read-t14 Inv-loop μ-loop
+array-read-t14 c = omega arith
 
--- src/table.rt:79:56
-element-copy-out-held-after : tie.Need-element-copy-out-held-after Inv-loop μ-loop
-element-copy-out-held-after c = omega arith
-
--- src/table.rt:79:71
+-- src/table.rt:114:46
 array-read-held-after : tie.Need-array-read-held-after Inv-loop μ-loop
 array-read-held-after c = omega arith
 
--- src/table.rt:79:82
-element-copy-out-held-after-2 : tie.Need-element-copy-out-held-after-2 Inv-loop μ-loop
-element-copy-out-held-after-2 c = omega arith
+-- src/table.rt:114:56
+array-read-held-after-2 : tie.Need-array-read-held-after-2 Inv-loop μ-loop
+array-read-held-after-2 c = omega arith
 
--- src/table.rt:79:28
+-- src/table.rt:114:67
+array-read-held-after-3 : tie.Need-array-read-held-after-3 Inv-loop μ-loop
+array-read-held-after-3 c = omega arith
+
+-- src/table.rt:114:23
 held-after-requires : tie.Need-held-after-requires Inv-loop μ-loop
 held-after-requires c κs = tt
 
--- src/table.rt:79:13
-element-write-next : tie.Need-element-write-next Inv-loop μ-loop
-element-write-next c = omega arith
+-- src/table.rt:114:13
+array-write-held : tie.Need-array-write-held Inv-loop μ-loop
+array-write-held c = omega arith
 
--- src/table.rt:80:13
+-- src/table.rt:115:13
 add-i : tie.Need-add-i Inv-loop μ-loop
 add-i c = omega arith
 
--- src/table.rt:78:9
+-- src/table.rt:113:9
 loop-less : tie.Need-loop-less Inv-loop μ-loop
 loop-less c = omega arith
 
--- src/table.rt:78:9
+-- src/table.rt:113:9
 loop-again : tie.Need-loop-again Inv-loop μ-loop
 loop-again c =
-    let a = c .before .before .before .before .before in
-    let s = a .before .args .t1 in
-    let f = after s (a .before .args .t2) in
-    let long : length (s .held) ≡ 24 = search needs in (
+    let a = c .before .before in
+    let e = a .before .before .before .before .args .self in
+    let l = a .before .before .before .before .args .t2 in
+    let f = after (e .low) (e .level) l (e .held) in
+    let long : length (e .held) ≡ 24 = search needs in (
       omega arith,
-      ap (λ (n : Entries). withHeld n (set (n .held) (a .loop .i) (c .held-after .result))) (a .loop .inv .1)
-          ∙ ap (λ (x : ℕ). withHeld s (set (tab f 0 (a .loop .i) ++ drop (a .loop .i) (s .held)) (a .loop .i) x)) (c .held-after .ensures)
-          ∙ ap (withHeld s) (fill-more f (a .loop .i) (s .held) (omega arith)),
+      ap (λ (h : List ℕ). set h (a .loop .i) (c .held-after .result)) (a .loop .inv .1)
+          ∙ ap (set (tab f 0 (a .loop .i) ++ drop (a .loop .i) (e .held)) (a .loop .i))
+          (c .held-after .ensures
+          ∙ ap (heldAfter (getD (e .low) (a .loop .i) 0) (getD (e .level) (a .loop .i) 0) (getD l (a .loop .i) 0))
+          (ap (λ (h : List ℕ). getD h (a .loop .i) 0) (a .loop .inv .1) ∙ fill-here f (a .loop .i) (e .held) 0 (omega arith)))
+          ∙ fill-more f (a .loop .i) (e .held) (omega arith),
     )
 
--- src/table.rt:73:5
+-- src/table.rt:106:5
 returns : tie.Need-returns Inv-loop μ-loop
 unfolding wired
 returns c =
-    let a = c .before in
-    let s = a .before .args .t1 in
-    let l = a .before .args .t2 in
-    let long : length (s .held) ≡ 24 = search needs in
+    let a = c .before .before in
+    let e = a .before .before .before .before .args .self in
+    let l = a .before .before .before .before .args .t2 in
+    let f = after (e .low) (e .level) l (e .held) in
+    let long : length (e .held) ≡ 24 = search needs in
     let full : a .loop .i ≡ 24 = omega arith in
-    ap (λ (n : Entries). withLevel n l) (a .loop .inv .1)
-    ∙ ap (λ (i : ℕ). withLevel (withHeld s (tab (after s l) 0 i ++ drop i (s .held))) l) full
-    ∙ ap (λ (h : List ℕ). withLevel (withHeld s h) l) (fill-all (after s l) 24 (s .held) long)
+    ap (λ (h : List ℕ). withLevel (withHeld e h) l) (a .loop .inv .1 ∙ ap (λ (i : ℕ). tab f 0 i ++ drop i (e .held)) full ∙ fill-all f 24 (e .held) long)
 
 pub wired-spec : {M : Type 1} → statement M
 wired-spec =
@@ -98,13 +100,13 @@ wired-spec =
     Inv-loop
     μ-loop
     loop-holds
-    mul-t10
-    element-copy-out-t13
-    element-copy-out-held-after
+    mul-t11
+    array-read-t14
     array-read-held-after
-    element-copy-out-held-after-2
+    array-read-held-after-2
+    array-read-held-after-3
     held-after-requires
-    element-write-next
+    array-write-held
     add-i
     loop-less
     loop-again
