@@ -1,13 +1,15 @@
 -- Accesses as the code takes them: by the offset, and a call's refusals.
 use Prim.Native.Nat.{ℕ, _+_, _*_, _/_, _%_, _^_, _≤_, _<_}
-use mathlib.Core.Path.{_≡_, refl, ap, _∙_}
+use mathlib.Core.Path.{_≡_, refl, sym, ap, _∙_}
 use mathlib.Core.Bool.{Bool, true, false, cond}
 use mathlib.Core.List.{[], _∷_}
 use native.Mathlib.Omega.{arith}
+use native.Mathlib.Decide.{ℕ-discrete}
 use lib.Bits.{bitOr, or-shifted}
-use lib.ListN.{getD}
+use lib.Dec.{eqb}
+use lib.ListN.{getD, length}
 use mir.Val.{boolByte}
-use borrow.Author.Tests.{ne-eqb, le-leb, lt-leb, lt-ltb, le-ltb}
+use borrow.Author.Tests.{eq-eqb, ne-eqb, le-leb, lt-leb, lt-ltb, le-ltb}
 use Rattle.answers.specs.declared.Refusal.the-variants as refusal
 use Rattle.answers.specs.declared.Answer.the-variants as answer
 use Rattle.timer.specs.declared.Timer.{Timer}
@@ -17,8 +19,9 @@ use Rattle.timers.specs.declared.Timers.{Timers}
 use Rattle.timers.specs.declared.Ran.{Ran}
 use Rattle.timers.specs.State.{at, isEnabled, withCounter, withEnabled, withList, withTimers, withTimer}
 use Rattle.timers.specs.Formed.{wellFormed}
-use Rattle.timers.specs.Registers.{aligned, numbered, statusOf, timerRegister, registerOf, clearedBy, timerWritten, writtenOf}
+use Rattle.timers.specs.Registers.{aligned, numbered, statusOf, timerRegister, registerOf, clearedBy, timerPut, timerWritten, writtenOf}
 use Rattle.timers.specs.Tick.{ticks, firings, ranOf}
+use Rattle.timers.proofs.Three.{three-same, eta}
 use Rattle.timers.specs.Call.{turn, refused, readingOf, writingOf, advancingOf, readOf, writeOf, advanceOf}
 
 -- ---- the status register
@@ -179,14 +182,40 @@ cleared-code s v b0 b1 b2 x0 x1 x2 e0 e1 e2 f0 f1 f2 =
 -- ---- a write to a timer's registers
 
 module _ (s : Timers) (o v : ℕ) where
-  pub write-configuration : o % 0x20 ≡ 0 → timerWritten s o v ≡ withTimer s (numbered o) (configuredOf (at s (numbered o)) v)
-  unfolding timerWritten
-  write-configuration e = rw e
+  abbrev n : ℕ
+  n = numbered o
 
-  pub write-comparator : o % 0x20 ≡ 8 → timerWritten s o v ≡ withTimer s (numbered o) (comparedOf (at s (numbered o)) v)
-  unfolding timerWritten
-  write-comparator e = rw e
+  -- each timer is asked whether it is the one, or one is sought
+  asked : (f : Timer → Timer) (i : ℕ) → cond (eqb n i) (f (at s i)) (at s i) ≡ cond (eqb i n) (f (at s n)) (at s i)
+  asked f i = go (ℕ-discrete i n)
+    where
+      go : Dec (i ≡ n) → cond (eqb n i) (f (at s i)) (at s i) ≡ cond (eqb i n) (f (at s n)) (at s i)
+      go (yes q) = rw (eq-eqb n i (sym q), eq-eqb i n q) (ap (λ (k : ℕ). f (at s k)) q)
+      go (no d) = rw (ne-eqb n i (λ e. d (sym e)), ne-eqb i n d)
 
-  pub write-neither : (o % 0x20 ≡ 0 → ⊥) → (o % 0x20 ≡ 8 → ⊥) → timerWritten s o v ≡ s
-  unfolding timerWritten
-  write-neither n k = rw (ne-eqb (o % 0x20) 0 n, ne-eqb (o % 0x20) 8 k)
+  written-each : length (s .timer) ≡ 3 → withTimers s (λ i. timerPut (at s i) (eqb n i) (o % 0x20) v) ≡ timerWritten s o v
+  unfolding timerPut timerWritten
+  written-each l = go (eqb (o % 0x20) 0) (eqb (o % 0x20) 8)
+    where
+      same : (b : Bool) (t : Timer) → cond b t t ≡ t
+      same true t = refl
+      same false t = refl
+
+      by : (Timer → Timer) → ℕ → Timer
+      by f i = cond (eqb n i) (f (at s i)) (at s i)
+
+      to : (Timer → Timer) → ℕ → Timer
+      to f i = cond (eqb i n) (f (at s n)) (at s i)
+
+      go :
+          (x y : Bool) →
+          withTimers s (by (λ t. cond x (configuredOf t v) (cond y (comparedOf t v) t)))
+              ≡ cond x (withTimer s n (configuredOf (at s n) v)) (cond y (withTimer s n (comparedOf (at s n) v)) s)
+      go true y = ap (withList s) (three-same (by (λ t. configuredOf t v)) (to (λ t. configuredOf t v)) (λ i h. asked (λ t. configuredOf t v) i))
+      go false true = ap (withList s) (three-same (by (λ t. comparedOf t v)) (to (λ t. comparedOf t v)) (λ i h. asked (λ t. comparedOf t v) i))
+      go false false = ap (withList s) (three-same (by (λ t. t)) (at s) (λ i h. same (eqb n i) (at s i))) ∙ sym (eta s l)
+
+  pub written-code :
+      length (s .timer) ≡ 3 → (x0 x1 x2 : Timer) → x0 ≡ timerPut (at s 0) (eqb n 0) (o % 0x20) v → x1 ≡ timerPut (at s 1) (eqb n 1) (o % 0x20) v →
+      x2 ≡ timerPut (at s 2) (eqb n 2) (o % 0x20) v → withList s (x0 ∷ x1 ∷ x2 ∷ []) ≡ timerWritten s o v
+  written-code l x0 x1 x2 e0 e1 e2 = (λ i. withList s (e0 i ∷ e1 i ∷ e2 i ∷ [])) ∙ written-each l

@@ -6,7 +6,7 @@ ghost use Rattle.timer.specs.State.{flag};
 ghost use Rattle.timer.specs.Registers.{bit, clearedOf};
 ghost use Rattle.timers.specs.State.{at, isEnabled, withCounter, withEnabled, withTimer, withTimers, resetTimers};
 ghost use Rattle.timers.specs.Formed.{wellFormed};
-ghost use Rattle.timers.specs.Registers.{aligned, clearedBy, statusOf, timerRegister, registerOf, timerWritten, writtenOf};
+ghost use Rattle.timers.specs.Registers.{aligned, clearedBy, statusOf, timerRegister, registerOf, timerPut, timerWritten, writtenOf};
 ghost use Rattle.timers.specs.Tick.{countedOf, matchesOf, firedOf, drivesOf, pulsesOf, routeOf, ranOf};
 ghost use Rattle.timers.specs.Call.{refused, readingOf, writingOf, readOf, writeOf, advanceOf};
 use answers::Answer;
@@ -278,20 +278,26 @@ impl Timers {
         next
     }
 
-    // A write to an offset of the timers' registers.
+    // A write to an offset of the timers' registers. Each timer is asked whether it is the one: none is sought by its number, so
+    // that no timer has to lie in memory.
     fn timer_written(self, offset: u64, value: u64) -> Timers
         requires { ⌜ 0x100 ≤ offset ⌝ }
         ensures { λ r. ⌜ r ≡ timerWritten self offset value ⌝ }
     {
-        let m = ((offset - Timers::TIMERS) / Timers::STEP) as usize;
+        let m = (offset - Timers::TIMERS) / Timers::STEP;
         let place = offset % Timers::STEP;
-        if place == 0 {
-            return self.with(m, self.at(m).configured(value));
+        let t = self.timer;
+        let t0 = t[0];
+        let t1 = t[1];
+        let t2 = t[2];
+        let x0 = put(t0, m == 0, place, value);
+        let x1 = put(t1, m == 1, place, value);
+        let x2 = put(t2, m == 2, place, value);
+        Timers {
+            counter: self.counter,
+            enabled: self.enabled,
+            timer: [x0, x1, x2],
         }
-        if place == Timers::COMPARATOR {
-            return self.with(m, self.at(m).compared(value));
-        }
-        self
     }
 
     // A write to an offset in the window.
@@ -419,4 +425,20 @@ fn cleared_by(t: Timer, b: u8) -> Timer
     ensures { λ r. ⌜ r ≡ cond (flag b) (clearedOf t) t ⌝ }
 {
     if b == 1 { t.cleared() } else { t }
+}
+
+// A timer after a write to a place among its registers, if it is the one that is written.
+fn put(t: Timer, hit: bool, place: u64, value: u64) -> Timer
+    ensures { λ r. ⌜ r ≡ timerPut t hit place value ⌝ }
+{
+    if !hit {
+        return t;
+    }
+    if place == 0 {
+        return t.configured(value);
+    }
+    if place == Timers::COMPARATOR {
+        return t.compared(value);
+    }
+    t
 }

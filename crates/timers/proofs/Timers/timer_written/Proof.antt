@@ -1,68 +1,60 @@
-use mathlib.Core.Path.{sym, ap, _∙_}
-use Rattle.timer.specs.declared.Timer.{Timer}
-use Rattle.timer.specs.Registers.{configuredOf, comparedOf}
-use Rattle.timers.specs.State.{withTimer}
-use Rattle.timers.specs.Registers.{numbered}
-use Rattle.timers.proofs.Access.{write-configuration, write-comparator, write-neither}
+use mathlib.Core.Path.{_≡_}
+use lib.ListN.{length, length-map}
+use Rattle.timers.proofs.Access.{written-code}
 use borrow.Author.Needs.{needs}
 use Rattle.timers.proofs.Timers.timer_written.Statement.{statement}
 use Rattle.timers.proofs.Timers.timer_written.Tie as tie
 use Rattle.timers.proofs.Timers.timer_written.Reads as reads
 use Rattle.timers.proofs.Timers.timer_written.Lts as lts
-use Rattle.timer.proofs.Timer.compared.Reads as compared-reads
-use Rattle.timer.proofs.Timer.configured.Reads as configured-reads
-use Rattle.timers.proofs.Timers.at.Reads as at-reads
-use Rattle.timers.proofs.Timers.with.Reads as with-reads
+use Rattle.timers.proofs.put.Reads as put-reads
 
+-- src/lib.rt:287:18
 sub-m : tie.Need-sub-m
 sub-m c = search needs
 
-at-requires : tie.Need-at-requires
-at-requires c κs = search needs
+-- src/lib.rt:290:18
+array-copy-out-t0 : tie.Need-array-copy-out-t0
+array-copy-out-t0 c = search needs
 
-configured-requires : tie.Need-configured-requires
-configured-requires c κs = search needs
+-- src/lib.rt:291:18
+array-copy-out-t1 : tie.Need-array-copy-out-t1
+array-copy-out-t1 c = search needs
 
-with-requires : tie.Need-with-requires
-with-requires c κs = search needs
+-- src/lib.rt:292:18
+array-copy-out-t2 : tie.Need-array-copy-out-t2
+array-copy-out-t2 c = search needs
 
+-- src/lib.rt:293:13
+put-requires : tie.Need-put-requires
+put-requires c κs = search needs
+
+-- src/lib.rt:294:13
+put-requires-2 : tie.Need-put-requires-2
+put-requires-2 c κs = search needs
+
+-- src/lib.rt:295:13
+put-requires-3 : tie.Need-put-requires-3
+put-requires-3 c κs = search needs
+
+-- src/lib.rt:283:5
 returns : tie.Need-returns
-returns c = let i = c .before .before .before in
-    let a = i .before .args in
-    c .with .ensures
-    ∙ ap (withTimer (a .self) (numbered (a .offset))) (c .before .configured .ensures ∙ ap (λ (t : Timer). configuredOf t (a .value)) (c .before .before .at .ensures))
-    ∙ sym (write-configuration (a .self) (a .offset) (a .value) (i .if1 .taken))
-
-at-requires-2 : tie.Need-at-requires-2
-at-requires-2 c κs = search needs
-
-compared-requires : tie.Need-compared-requires
-compared-requires c κs = search needs
-
-with-requires-2 : tie.Need-with-requires-2
-with-requires-2 c κs = search needs
-
-returns-2 : tie.Need-returns-2
-returns-2 c = let i = c .before .before .before in
-    let a = i .before .before .args in
-    c .with2 .ensures
-    ∙ ap (withTimer (a .self) (numbered (a .offset))) (c .before .compared .ensures ∙ ap (λ (t : Timer). comparedOf t (a .value)) (c .before .before .at2 .ensures))
-    ∙ sym (write-comparator (a .self) (a .offset) (a .value) (i .if2 .taken))
-
-returns-3 : tie.Need-returns-3
-returns-3 c = sym (write-neither _ _ _ (c .before .if1 .left) (c .if2 .left))
+returns c =
+    let c1 = c .before in
+    let c0 = c1 .before in
+    let s = c0 .before .before .before .before .before in
+    let a = s .args in
+    let l : length (a .self .timer) ≡ 3 = simp length-map at (s .good .0 .1 .1 .1 .1 .0 .1 .0 .1) in
+    written-code (a .self) (a .offset) (a .value) l _ _ _ (c0 .put .ensures) (c1 .put2 .ensures) (c .put3 .ensures)
 
 pub timer-written-spec : {M : Type 1} → statement M
 timer-written-spec =
     tie.close
     (tie.spec
     sub-m
-    at-requires
-    configured-requires
-    with-requires
-    returns
-    at-requires-2
-    compared-requires
-    with-requires-2
-    returns-2
-    returns-3)
+    array-copy-out-t0
+    array-copy-out-t1
+    array-copy-out-t2
+    put-requires
+    put-requires-2
+    put-requires-3
+    returns)
