@@ -5,7 +5,7 @@ use mathlib.Core.Bool.{Bool, true, false, cond, not, _&&_, _||_}
 use lib.Dec.{T, eqb}
 use Rattle.timer.specs.declared.Timer.{Timer}
 use Rattle.timer.specs.State.{flag}
-use Rattle.timer.specs.Tick.{firing, pulsing, driving}
+use Rattle.timer.specs.Tick.{firing, pulsing, raising, driving}
 
 -- edge type, or with its status set: no firing moves the wire by the timer's status
 unfoldable pub risen : Timer → Bool
@@ -19,6 +19,10 @@ module _ (t : Timer) where
   pub firing-pulsing : pulsing (firing t) ≡ pulsing t
   unfolding firing pulsing
   firing-pulsing = refl
+
+  pub firing-raising : raising (firing t) ≡ raising t
+  unfolding firing raising
+  firing-raising = refl
 
   pub firing-risen : risen (firing t) ≡ true
   unfolding firing risen
@@ -44,6 +48,21 @@ module _ (t : Timer) where
         go : (l i : Bool) (s : ℕ) (r : Bool) → (not l || flag s) ≡ true → (l && (i && (flag (cond l 1 s) && r))) ≡ (l && (i && (flag s && r)))
         go true i s r e = ap (λ (x : Bool). i && (x && r)) (sym e)
         go false i s r e = refl
+
+    -- what it drives after a firing: what it drove, and its pin, where it raises its wire
+    pub driving-fired : driving (firing t) p ≡ driving t p || (raising t && eqb (t .route) p)
+    unfolding firing raising driving
+    driving-fired = go (flag (t .«level_type»)) (flag (t .interrupt)) (t .status) (eqb (t .route) p)
+      where
+        or-same : (s r : Bool) → r ≡ ((s && r) || r)
+        or-same true true = refl
+        or-same true false = refl
+        or-same false r = refl
+
+        go : (l i : Bool) (s : ℕ) (r : Bool) → (l && (i && (flag (cond l 1 s) && r))) ≡ ((l && (i && (flag s && r))) || ((l && i) && r))
+        go true true s r = or-same (flag s) r
+        go true false s r = refl
+        go false i s r = refl
 
     pub driving-more : driving t p ≡ true → driving (firing t) p ≡ true
     unfolding firing driving

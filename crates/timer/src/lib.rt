@@ -7,7 +7,7 @@ ghost use mir.Val.{boolByte};
 ghost use Rattle.timer.specs.State.{flag, width, reduced, blank, resetTimer};
 ghost use Rattle.timer.specs.Formed.{flagsFit, narrowFits, timerFormed};
 ghost use Rattle.timer.specs.Registers.{bit, configurationOf, configuredOf, comparedOf, clearedOf};
-ghost use Rattle.timer.specs.Tick.{meets, firing, pulsing, driving};
+ghost use Rattle.timer.specs.Tick.{meets, firing, pulsing, raising, driving};
 ghost use Rattle.timer.specs.Alone.{runOf};
 ghost use Rattle.timer.specs.Closed.{times, stride, firedTo, Ahead};
 
@@ -213,6 +213,13 @@ impl Timer {
         ensures { λ r. ⌜ r ≡ pulsing self ⌝ }
     {
         !(self.level_type == 1) & (self.interrupt == 1)
+    }
+
+    // Its firing raises the wire of its pin for good, in a block that is enabled.
+    pub fn raises(self) -> bool
+        ensures { λ r. ⌜ r ≡ raising self ⌝ }
+    {
+        (self.level_type == 1) & (self.interrupt == 1)
     }
 
     // It holds the wire of the pin high, in a block that is enabled.

@@ -210,7 +210,7 @@ module _ (s : Timers) (o v : ℕ) where
       go :
           (x y : Bool) →
           withTimers s (by (λ t. cond x (configuredOf t v) (cond y (comparedOf t v) t)))
-              ≡ cond x (withTimer s n (configuredOf (at s n) v)) (cond y (withTimer s n (comparedOf (at s n) v)) s)
+          ≡ cond x (withTimer s n (configuredOf (at s n) v)) (cond y (withTimer s n (comparedOf (at s n) v)) s)
       go true y = ap (withList s) (three-same (by (λ t. configuredOf t v)) (to (λ t. configuredOf t v)) (λ i h. asked (λ t. configuredOf t v) i))
       go false true = ap (withList s) (three-same (by (λ t. comparedOf t v)) (to (λ t. comparedOf t v)) (λ i h. asked (λ t. comparedOf t v) i))
       go false false = ap (withList s) (three-same (by (λ t. t)) (at s) (λ i h. same (eqb n i) (at s i))) ∙ sym (eta s l)

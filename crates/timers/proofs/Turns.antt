@@ -7,10 +7,10 @@ use lib.Dec.{eqb}
 use lib.ListN.{getD}
 use Rattle.timers.specs.declared.Timers.{Timers}
 use Rattle.timers.specs.State.{three, isEnabled}
-use Rattle.timers.specs.Tick.{countedOf, matchesOf, firedOf, turnedOf, upTo, tick, firesIn, ticks, firings, first, ranOf, drivesOf, pulsesOf, routeOf}
+use Rattle.timers.specs.Tick.{countedOf, matchesOf, firedOf, turnedOf, upTo, tick, firesIn, ticks, firings, first, ranOf, drivesOf, pulsesOf, raisesOf, routeOf}
 use Rattle.timers.proofs.Three.{at-three}
 use Rattle.timers.proofs.Each.{by-turn}
-use Rattle.timers.proofs.Wires.{risenOf, fired-matches, counted-pulses, counted-route, counted-risen, counted-drives, fired-pulses, fired-route, fired-risen-kept, fired-drives-more}
+use Rattle.timers.proofs.Wires.{risenOf, fired-matches, counted-pulses, counted-raises, counted-route, counted-risen, counted-drives, fired-pulses, fired-raises, fired-route, fired-risen-kept, fired-drives-more}
 
 -- ---- a turn
 
@@ -29,6 +29,9 @@ module _ (s : Timers) (m : ℕ) where
 
     turned-pulses : pulsesOf (turnedOf s m) j ≡ pulsesOf s j
     turned-pulses = by-turn s m (λ u. pulsesOf u j ≡ pulsesOf s j) (λ e. fired-pulses s m j l) (λ e. refl)
+
+    turned-raises : raisesOf (turnedOf s m) j ≡ raisesOf s j
+    turned-raises = by-turn s m (λ u. raisesOf u j ≡ raisesOf s j) (λ e. fired-raises s m j l) (λ e. refl)
 
     turned-route : routeOf (turnedOf s m) j ≡ routeOf s j
     turned-route = by-turn s m (λ u. routeOf u j ≡ routeOf s j) (λ e. fired-route s m j l) (λ e. refl)
@@ -60,6 +63,11 @@ module _ (s : Timers) where
   unfolding upTo
   turns-pulses j zero l = counted-pulses s j
   turns-pulses j (suc m) l = turned-pulses (upTo m s) m j l ∙ turns-pulses j m l
+
+  pub turns-raises : (j m : ℕ) → j < 3 → raisesOf (upTo m s) j ≡ raisesOf s j
+  unfolding upTo
+  turns-raises j zero l = counted-raises s j
+  turns-raises j (suc m) l = turned-raises (upTo m s) m j l ∙ turns-raises j m l
 
   pub turns-route : (j m : ℕ) → j < 3 → routeOf (upTo m s) j ≡ routeOf s j
   unfolding upTo
@@ -104,6 +112,9 @@ module _ (s : Timers) where
     pub tick-pulses : pulsesOf (tick s) j ≡ pulsesOf s j
     tick-pulses = by-tick (λ u. pulsesOf u j ≡ pulsesOf s j) (turns-pulses j 3 l) refl
 
+    pub tick-raises : raisesOf (tick s) j ≡ raisesOf s j
+    tick-raises = by-tick (λ u. raisesOf u j ≡ raisesOf s j) (turns-raises j 3 l) refl
+
     pub tick-route : routeOf (tick s) j ≡ routeOf s j
     tick-route = by-tick (λ u. routeOf u j ≡ routeOf s j) (turns-route j 3 l) refl
 
@@ -119,6 +130,11 @@ pub ticks-pulses : (j n : ℕ) (s : Timers) → j < 3 → pulsesOf (ticks n s) j
 unfolding ticks
 ticks-pulses j zero s l = refl
 ticks-pulses j (suc n) s l = tick-pulses (ticks n s) j l ∙ ticks-pulses j n s l
+
+pub ticks-raises : (j n : ℕ) (s : Timers) → j < 3 → raisesOf (ticks n s) j ≡ raisesOf s j
+unfolding ticks
+ticks-raises j zero s l = refl
+ticks-raises j (suc n) s l = tick-raises (ticks n s) j l ∙ ticks-raises j n s l
 
 pub ticks-route : (j n : ℕ) (s : Timers) → j < 3 → routeOf (ticks n s) j ≡ routeOf s j
 unfolding ticks

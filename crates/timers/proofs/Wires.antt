@@ -1,16 +1,17 @@
 -- The timers' part of the wire rule, and what counting and firing do to it.
-use Prim.Native.Nat.{ℕ, _<_}
-use mathlib.Core.Path.{_≡_, refl, ap, ap₂, _∙_}
+use Prim.Native.Nat.{ℕ, zero, suc, _<_}
+use mathlib.Core.Path.{_≡_, refl, sym, ap, ap₂, _∙_}
 use mathlib.Core.Bool.{Bool, true, false, _&&_, _||_}
 use native.Mathlib.Decide.{ℕ-discrete}
-use lib.Dec.{lit<}
+use native.Mathlib.Omega.{arith}
+use lib.Dec.{eqb, lit<}
 use Rattle.timer.specs.declared.Timer.{Timer}
 use Rattle.timer.specs.State.{flag}
-use Rattle.timer.specs.Tick.{meets, firing, pulsing, driving}
-use Rattle.timer.proofs.Wire.{risen, firing-route, firing-pulsing, firing-risen, pulsing-risen, driving-same, driving-more}
+use Rattle.timer.specs.Tick.{meets, firing, pulsing, raising, driving}
+use Rattle.timer.proofs.Wire.{risen, firing-route, firing-pulsing, firing-raising, firing-risen, pulsing-risen, driving-same, driving-fired, driving-more}
 use Rattle.timers.specs.declared.Timers.{Timers}
-use Rattle.timers.specs.State.{at, resetTimers}
-use Rattle.timers.specs.Tick.{countedOf, matchesOf, firedOf, drivesOf, pulsesOf, routeOf}
+use Rattle.timers.specs.State.{at, isEnabled, resetTimers}
+use Rattle.timers.specs.Tick.{countedOf, matchesOf, firedOf, drivesOf, pulsesOf, raisesOf, routeOf}
 use Rattle.timers.proofs.Each.{fired-counter, fired-enabled, fired-same, fired-other}
 
 -- timer m is edge type, or has its status set: its firing moves no wire but by a pulse
@@ -62,6 +63,10 @@ module _ (s : Timers) where
     unfolding countedOf pulsesOf
     counted-pulses = refl
 
+    pub counted-raises : raisesOf (countedOf s) j ≡ raisesOf s j
+    unfolding countedOf raisesOf
+    counted-raises = refl
+
     pub counted-route : routeOf (countedOf s) j ≡ routeOf s j
     unfolding countedOf routeOf
     counted-route = refl
@@ -85,6 +90,10 @@ module _ (s : Timers) (m : ℕ) where
     pub fired-pulses : pulsesOf (firedOf s m) j ≡ pulsesOf s j
     unfolding pulsesOf
     fired-pulses = by-firing (λ t. pulsing t ≡ pulsing (at s j)) j l (λ e. rw e (firing-pulsing (at s m))) refl
+
+    pub fired-raises : raisesOf (firedOf s m) j ≡ raisesOf s j
+    unfolding raisesOf
+    fired-raises = by-firing (λ t. raising t ≡ raising (at s j)) j l (λ e. rw e (firing-raising (at s m))) refl
 
     pub fired-route : routeOf (firedOf s m) j ≡ routeOf s j
     unfolding routeOf
@@ -110,6 +119,53 @@ module _ (s : Timers) (m : ℕ) where
     pub fired-drives-same : risenOf s m ≡ true → drivesOf (firedOf s m) p ≡ drivesOf s p
     unfolding risenOf
     fired-drives-same q = drives-same s (firedOf s m) p (fired-enabled s m) (λ j l. by-firing (λ t. driving t p ≡ driving (at s j) p) j l (λ e. rw e (driving-same (at s m) p q)) refl)
+
+    -- of an enabled block, the wires that it drives are those that it drove, and timer m's pin's, where the timer raises it
+    pub fired-drives : m < 3 → isEnabled s ≡ true → drivesOf (firedOf s m) p ≡ drivesOf s p || (raisesOf s m && eqb (routeOf s m) p)
+    unfolding drivesOf raisesOf routeOf
+    fired-drives l e =
+        ap₂ _&&_ (ap flag (fired-enabled s m) ∙ e) (which m refl l)
+        ∙ ap (λ (b : Bool). (b && (d 0 || (d 1 || d 2))) || more) (sym e)
+      where
+        more : Bool
+        more = raising (at s m) && eqb (at s m .route) p
+
+        d : ℕ → Bool
+        d j = driving (at s j) p
+
+        d′ : ℕ → Bool
+        d′ j = driving (at (firedOf s m) j) p
+
+        hit : (j : ℕ) → j ≡ m → d′ j ≡ d j || more
+        hit j q = ap d′ q ∙ ap (λ (t : Timer). driving t p) (fired-same s m l) ∙ driving-fired (at s m) p ∙ ap (λ (k : ℕ). d k || more) (sym q)
+
+        miss : (j : ℕ) → j < 3 → (j ≡ m → ⊥) → d′ j ≡ d j
+        miss j h n = ap (λ (t : Timer). driving t p) (fired-other s m j h n)
+
+        first : (a b x : Bool) → ((a || x) || b) ≡ ((a || b) || x)
+        first true b x = refl
+        first false true true = refl
+        first false true false = refl
+        first false false true = refl
+        first false false false = refl
+
+        later : (a b x : Bool) → (a || (b || x)) ≡ ((a || b) || x)
+        later true b x = refl
+        later false b x = refl
+
+        which : (k : ℕ) → k ≡ m → k < 3 → (d′ 0 || (d′ 1 || d′ 2)) ≡ ((d 0 || (d 1 || d 2)) || more)
+        which zero q h =
+            (λ i. hit 0 q i || (miss 1 (lit< tt) (λ r. omega arith) i || miss 2 (lit< tt) (λ r. omega arith) i))
+            ∙ first (d 0) (d 1 || d 2) more
+        which (suc zero) q h =
+            (λ i. miss 0 (lit< tt) (λ r. omega arith) i || (hit 1 q i || miss 2 (lit< tt) (λ r. omega arith) i))
+            ∙ ap (_||_ (d 0)) (first (d 1) (d 2) more)
+            ∙ later (d 0) (d 1 || d 2) more
+        which (suc (suc zero)) q h =
+            (λ i. miss 0 (lit< tt) (λ r. omega arith) i || (miss 1 (lit< tt) (λ r. omega arith) i || hit 2 q i))
+            ∙ ap (_||_ (d 0)) (later (d 1) (d 2) more)
+            ∙ later (d 0) (d 1 || d 2) more
+        which (suc (suc (suc k))) q h = absurd (omega arith)
 
     -- wires only rise
     pub fired-drives-more : drivesOf s p ≡ true → drivesOf (firedOf s m) p ≡ true

@@ -2,7 +2,7 @@
 use Prim.Native.Nat.{ℕ, zero, suc, _+_, _%_, _^_}
 use mathlib.Core.Bool.{Bool, cond, _&&_, _||_}
 use lib.Dec.{eqb}
-use Rattle.timer.specs.Tick.{meets, firing, pulsing, driving}
+use Rattle.timer.specs.Tick.{meets, firing, pulsing, raising, driving}
 use Rattle.timers.specs.declared.Timers.{Timers}
 use Rattle.timers.specs.declared.Ran.{Ran}
 use Rattle.timers.specs.State.{three, at, isEnabled, withCounter, withTimer}
@@ -70,6 +70,10 @@ drivesOf s pin = isEnabled s && (driving (at s 0) pin || (driving (at s 1) pin |
 -- a firing edge timer with its interrupt enabled raises the wire of its pin and drops it again
 unfoldable pub pulsesOf : Timers → ℕ → Bool
 pulsesOf s m = pulsing (at s m)
+
+-- a firing level timer with its interrupt enabled holds the wire of its pin high
+unfoldable pub raisesOf : Timers → ℕ → Bool
+raisesOf s m = raising (at s m)
 
 -- the pin that timer m is routed to
 unfoldable pub routeOf : Timers → ℕ → ℕ

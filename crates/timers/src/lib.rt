@@ -7,7 +7,7 @@ ghost use Rattle.timer.specs.Registers.{bit, clearedOf};
 ghost use Rattle.timers.specs.State.{at, isEnabled, withCounter, withEnabled, withTimer, withTimers, resetTimers};
 ghost use Rattle.timers.specs.Formed.{wellFormed};
 ghost use Rattle.timers.specs.Registers.{aligned, clearedBy, statusOf, timerRegister, registerOf, timerPut, timerWritten, writtenOf};
-ghost use Rattle.timers.specs.Tick.{countedOf, matchesOf, firedOf, drivesOf, pulsesOf, routeOf, ranOf};
+ghost use Rattle.timers.specs.Tick.{countedOf, matchesOf, firedOf, drivesOf, pulsesOf, raisesOf, routeOf, ranOf};
 ghost use Rattle.timers.specs.Call.{refused, readingOf, writingOf, readOf, writeOf, advanceOf};
 use answers::Answer;
 use answers::Refusal;
@@ -156,6 +156,13 @@ impl Timers {
         ensures { λ r. ⌜ r ≡ pulsesOf self m ⌝ }
     {
         self.at(m).pulses()
+    }
+
+    // Timer m's firing raises its wire for good: level type with its interrupt enabled.
+    pub fn raises(self, m: usize) -> bool
+        ensures { λ r. ⌜ r ≡ raisesOf self m ⌝ }
+    {
+        self.at(m).raises()
     }
 
     // The pin that timer m is routed to.
