@@ -72,7 +72,7 @@ module _ (b : Board) (z : Formed b) (m : ℕ) (l : m < 3) where
   -- ---- the firing's two cases
 
   module _ (P : Controller → Type 0) where
-    by-cases : (pulsesOf s m ≡ true → P (withEntries c (pulsed (c .entries) levels p))) → (pulsesOf s m ≡ false → P (rewired c (wiresOf o s′))) → P c′
+    pub by-cases : (pulsesOf s m ≡ true → P (withEntries c (pulsed (c .entries) levels p))) → (pulsesOf s m ≡ false → P (rewired c (wiresOf o s′))) → P c′
     unfolding effect
     by-cases f g = go (pulsesOf s m) refl
       where

@@ -131,53 +131,9 @@ left-most f n a = omega (arith, bit (ltb a n), bit (ltb a (getD f 0 0)), bit (lt
     bit true = omega arith
     bit false = omega arith
 
--- ---- one round of the loop
+-- ---- no timer fires first at the tick
 
-ran-state : (s : Timers) (k : ℕ) (x : Ran) → x ≡ ranOf s k → x .timers ≡ timersTicks k s
-ran-state s k x e = ap (λ (y : Ran). y .timers) e ∙ ran-timers s k
-
-at-three : (g : ℕ → ℕ) (m : ℕ) → m < 3 → getD (three g) m 0 ≡ g m
-at-three g zero l = refl
-at-three g (suc zero) l = refl
-at-three g (suc (suc zero)) l = refl
-at-three g (suc (suc (suc m))) l = absurd (omega arith)
-
-module _ (b : Board) (z : Formed b) (n a r : ℕ) (f : List ℕ) (e : f ≡ three (λ m. first m n (b .timers))) (h : Next f a n r) where
-  pred-is : suc (r - 1) ≡ r
-  pred-is = omega (arith, h .above)
-
-  -- the board before tick r, from the pins after a
-  pub before-tick : (c : Controller) (x : Ran) → c ≡ ticks a b .controller → x ≡ ranOf (b .timers) (r - 1) → board c (x .timers) (b .outside) ≡ ticks (r - 1) b
-  before-tick c x ec ex =
-      ap₂ (λ (u : Controller) (v : Timers). board u v (b .outside)) ec (ran-state (b .timers) (r - 1) x ex)
-      ∙ sym (jump b z a (r - 1) n (omega (arith, h .above)) (omega (arith, h .within)) (λ m l. go m l (rw (e, at-three (λ m. first m n (b .timers)) m l) at (h .none m l))))
-    where
-      go : (m : ℕ) → m < 3 → first m n (b .timers) ≤ a ⊎ r ≤ first m n (b .timers) → first m n (b .timers) ≤ a ⊎ r - 1 < first m n (b .timers)
-      go m l (inl q) = inl q
-      go m l (inr q) = inr (omega (arith, h .above))
-
-  -- its tick gives the pins after r
-  pub after-tick : (y u : Board) → y ≡ ticks (r - 1) b → u ≡ tick y → u .controller ≡ ticks r b .controller
-  unfolding ticks
-  after-tick y u q p = ap (λ (v : Board). v .controller) (p ∙ ap tick q) ∙ ap (λ (k : ℕ). ticks k b .controller) pred-is
-
--- ---- the whole answer
-
-pub answered :
-    (b : Board) (z : Formed b) (n : ℕ) (c : Controller) (x : Ran) → c ≡ ticks n b .controller → x ≡ ranOf (b .timers) n →
-    turn (board c (x .timers) (b .outside)) (answer.Fired (getD (x .fired) 0 0) (getD (x .fired) 1 0) (getD (x .fired) 2 0)) ≡ advancingOf b n
-unfolding advancingOf
-answered b z n c x ec ex = λ i. turn (whole i) (answer.Fired (count 0 (omega arith) i) (count 1 (omega arith) i) (count 2 (omega arith) i))
-  where
-    whole : board c (x .timers) (b .outside) ≡ ticks n b
-    whole = λ i. board (ec i) ((ran-state (b .timers) n x ex ∙ sym (ticks-timers b z n)) i) (sym (ticks-outside b z n) i)
-
-    count : (m : ℕ) → m < 3 → getD (x .fired) m 0 ≡ firings m n b
-    count m l = ap (λ (y : Ran). getD (y .fired) m 0) ex ∙ ran-fired (b .timers) n m l ∙ sym (ticks-firings b z m n)
-
--- ---- the loop ends early: where no timer fires first at the next tick to take, none does any more
-
-not-due : (f : List ℕ) (r : ℕ) → dueOf f r ≡ false → (m : ℕ) → m < 3 → getD f m 0 ≡ r → ⊥
+pub not-due : (f : List ℕ) (r : ℕ) → dueOf f r ≡ false → (m : ℕ) → m < 3 → getD f m 0 ≡ r → ⊥
 unfolding dueOf
 not-due f r d m l e = go (eqb (getD f 0 0) r) refl (eqb (getD f 1 0) r) refl (eqb (getD f 2 0) r) refl d m l e
   where
@@ -195,19 +151,19 @@ not-due f r d m l e = go (eqb (getD f 0 0) r) refl (eqb (getD f 1 0) r) refl (eq
     go false p false q false s d (suc (suc zero)) l e = no 2 s e
     go false p false q false s d (suc (suc (suc m))) l e = absurd (omega arith)
 
-module _ (b : Board) (z : Formed b) (n a r : ℕ) (f : List ℕ) (e : f ≡ three (λ m. first m n (b .timers))) (h : Next f a n r) (d : dueOf f r ≡ false) where
-  all-past : (m : ℕ) → m < 3 → first m n (b .timers) ≤ a
-  all-past m l = go (h .none m l) (h .one)
-    where
-      is : getD f m 0 ≡ first m n (b .timers)
-      is = ap (λ (x : List ℕ). getD x m 0) e ∙ at-three (λ m. first m n (b .timers)) m l
+-- ---- the whole answer
 
-      go : getD f m 0 ≤ a ⊎ r ≤ getD f m 0 → r ≡ n ⊎ ((r ≡ getD f 0 0) ⊎ ((r ≡ getD f 1 0) ⊎ (r ≡ getD f 2 0))) → first m n (b .timers) ≤ a
-      go (inl q) o = rw is at q
-      go (inr q) (inl o) = absurd (not-due f r d m l (omega (arith, is, first-le m n (b .timers))))
-      go (inr q) (inr (inl o)) = absurd (not-due f r d 0 (omega arith) (sym o))
-      go (inr q) (inr (inr (inl o))) = absurd (not-due f r d 1 (omega arith) (sym o))
-      go (inr q) (inr (inr (inr o))) = absurd (not-due f r d 2 (omega arith) (sym o))
+ran-state : (s : Timers) (k : ℕ) (x : Ran) → x ≡ ranOf s k → x .timers ≡ timersTicks k s
+ran-state s k x e = ap (λ (y : Ran). y .timers) e ∙ ran-timers s k
 
-  pub nothing-more : (c : Controller) → c ≡ ticks a b .controller → c ≡ ticks n b .controller
-  nothing-more c ec = ec ∙ sym (ap (λ (x : Board). x .controller) (jump b z a n n (omega (arith, h .above, h .within)) (omega arith) (λ m l. inl (all-past m l))))
+pub answered :
+    (b : Board) (z : Formed b) (n : ℕ) (c : Controller) (x : Ran) → c ≡ ticks n b .controller → x ≡ ranOf (b .timers) n →
+    turn (board c (x .timers) (b .outside)) (answer.Fired (getD (x .fired) 0 0) (getD (x .fired) 1 0) (getD (x .fired) 2 0)) ≡ advancingOf b n
+unfolding advancingOf
+answered b z n c x ec ex = λ i. turn (whole i) (answer.Fired (count 0 (omega arith) i) (count 1 (omega arith) i) (count 2 (omega arith) i))
+  where
+    whole : board c (x .timers) (b .outside) ≡ ticks n b
+    whole = λ i. board (ec i) ((ran-state (b .timers) n x ex ∙ sym (ticks-timers b z n)) i) (sym (ticks-outside b z n) i)
+
+    count : (m : ℕ) → m < 3 → getD (x .fired) m 0 ≡ firings m n b
+    count m l = ap (λ (y : Ran). getD (y .fired) m 0) ex ∙ ran-fired (b .timers) n m l ∙ sym (ticks-firings b z m n)

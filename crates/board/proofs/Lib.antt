@@ -5,6 +5,8 @@ pub mod Fire
 pub mod Turns
 pub mod Ticks
 pub mod Jumps
+pub mod Struck
+pub mod At
 pub mod Keeps
 pub mod Runs
 pub mod Held

@@ -61,7 +61,7 @@ module _ (b : Board) (z : Formed b) where
   Begun m n = first m n (b .timers) ≡ 0 → ⊥
 
   -- a timer that has fired is still
-  still-after : (m : ℕ) → m < 3 → (n : ℕ) → Begun m n → Still m (ticks n b)
+  pub still-after : (m : ℕ) → m < 3 → (n : ℕ) → Begun m n → Still m (ticks n b)
   unfolding ticks
   still-after m l zero f = absurd (f (first-zero m (b .timers)))
   still-after m l (suc n) f = tick-still (ticks n b) (ticks-formed n) m l (go (still-after m l n) (first-fires m n (b .timers) f))

@@ -69,6 +69,15 @@ module _ (b : Board) (z : Formed b) (m : ℕ) (l : m < 3) where
       go true q = fire-quiet b z m l (q refl)
       go false q = refl
 
+  -- a still timer stays still, whichever timer's turn it is
+  turned-keep : (j : ℕ) → j < 3 → Still j b → Still j (turned m b)
+  unfolding turned
+  turned-keep j k q = go (matchesOf (b .timers) m)
+    where
+      go : (f : Bool) → Still j (cond f (fire m b) b)
+      go true = still-kept b z m l j k q
+      go false = q
+
   there : (j : ℕ) → j < 3 → (j ≡ m → ⊥) → Pend m j b → Pend (suc m) j (fire m b)
   there j k n (inl q) = inl (still-kept b z m l j k q)
   there j k n (inr q) = inr (above n (q .0), fired-matches (b .timers) m j k n ∙ q .1)
@@ -111,7 +120,7 @@ module _ (b : Board) (z : Formed b) where
       }
   turns-formed (suc m) l = turned-formed (upTo m b) (turns-formed m (omega arith)) m l
 
-  turns-timers : (m : ℕ) → upTo m b .timers ≡ timersUpTo m s
+  pub turns-timers : (m : ℕ) → upTo m b .timers ≡ timersUpTo m s
   unfolding upTo
   turns-timers zero = sym (turns-zero s)
   turns-timers (suc m) = turned-timers m (upTo m b) ∙ ap (λ (x : Timers). turnedOf x m) (turns-timers m) ∙ sym (turns-suc s m)
@@ -125,13 +134,18 @@ module _ (b : Board) (z : Formed b) where
   abbrev due : ℕ → Bool
   due m = matchesOf (countedOf s) m
 
-  turns-match : (m : ℕ) → m < 3 → matchesOf (upTo m b .timers) m ≡ due m
+  pub turns-match : (m : ℕ) → m < 3 → matchesOf (upTo m b .timers) m ≡ due m
   turns-match m l = ap (λ (x : Timers). matchesOf x m) (turns-timers m) ∙ turns-matches s m m l (omega arith)
 
   still-later : (m j : ℕ) → j < 3 → Still j b → still (b .controller) (upTo m b .timers) j ≡ true
   still-later m j k q =
       ap (λ (x : Timers). still (b .controller) x j) (turns-timers m)
       ∙ still-over (b .controller) s (timersUpTo m s) j (turns-risen s j m k) (turns-pulses s j m k) (turns-route s j m k) q
+
+  pub turns-keep : (j : ℕ) → j < 3 → (m : ℕ) → m ≤ 3 → Still j b → Still j (upTo m b)
+  unfolding upTo
+  turns-keep j k zero l q = still-over (b .controller) s (countedOf s) j (λ r. counted-risen s j ∙ r) (counted-pulses s j) (counted-route s j) q
+  turns-keep j k (suc m) l q = turned-keep (upTo m b) (turns-formed m (omega arith)) m l j k (turns-keep j k m (omega arith) q)
 
   turns-quiet : ((m : ℕ) → m < 3 → due m ≡ true → Still m b) → (m : ℕ) → m ≤ 3 → upTo m b .controller ≡ b .controller
   unfolding upTo

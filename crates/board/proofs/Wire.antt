@@ -18,12 +18,9 @@ use Rattle.timers.specs.Tick.{drivesOf}
 use Rattle.board.specs.declared.Board.{Board}
 use Rattle.board.specs.State.{board}
 use Rattle.board.specs.Wires.{highAt, wiresOf, joined}
+use Rattle.board.specs.At.{levelOf}
 use Rattle.board.proofs.Rule.{wires-long, wires-at}
 use Rattle.board.proofs.Formed.{Formed}
-
--- the level of pin p, where its outside wire is at l
-abbrev pub levelOf : ℕ → Timers → ℕ → ℕ
-levelOf l s p = boolByte (eqb l 1 || drivesOf s p)
 
 wires-one : (o : List ℕ) (s : Timers) (p l : ℕ) → length o ≡ 24 → p < 24 → wiresOf (set o p l) s ≡ set (wiresOf o s) p (levelOf l s p)
 unfolding highAt

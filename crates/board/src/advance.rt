@@ -1,19 +1,17 @@
 // Many ticks in constant time. During an advance statuses only rise, so after a timer's first firing a further one changes
-// no pin: at most three firings matter, in the order of their ticks. The loop goes from one such tick to the next.
+// no pin: at most three firings matter, in the order of their ticks, each at one pin. The loop goes from one such tick to the next.
 ghost use mathlib.Core.Path.{_≡_};
-ghost use mathlib.Core.Bool.{true};
-ghost use Rattle.timers.specs.State.{three};
-ghost use Rattle.timers.specs.Tick.{first};
-ghost use Rattle.board.specs.Formed.{wellFormed};
-ghost use Rattle.board.specs.Tick.{ticks};
 ghost use Rattle.board.specs.declared.Call.the-variants as call;
-ghost use Rattle.board.specs.Step.{advancingOf, turnOf};
+ghost use Rattle.board.specs.Step.{turnOf};
 ghost use Rattle.board.specs.Next.{soonerOf, nextOf, dueOf};
+ghost use Rattle.board.specs.At.{struckLevel, struckHeld, struck, advancingAt};
 use crate::Board;
 use crate::Turn;
 use answers::Answer;
 use answers::Refusal;
 use controller::Controller;
+use entries::Entries;
+use entries::Low;
 use timers::Timers;
 
 // The sooner of f and best, unless f is past already.
@@ -40,48 +38,84 @@ fn due(f: [u32; 3], tick: u32) -> bool
     (f[0] == tick) | ((f[1] == tick) | (f[2] == tick))
 }
 
-impl Board {
-    // The pins after n ticks.
-    fn pins(self, firsts: [u32; 3], n: u32) -> Controller
-        requires { ⌜ wellFormed self ≡ true ⌝ }
-        requires { ⌜ firsts ≡ three (λ m. first m n (self .timers)) ⌝ }
-        ensures { λ r. ⌜ r ≡ ticks n self .controller ⌝ }
-    {
-        let s = self.timers;
-        let outside = self.outside;
-        let mut c = self.controller;
-        let mut at: u32 = 0;
-        while at < n {
-            let to = next(firsts, at, n);
-            if !due(firsts, to) {
-                return c;
-            }
-            let before = s.ran(to - 1);
-            let timers = before.timers;
-            let b = Board {
-                timers,
-                controller: c,
-                outside,
-            };
-            let after = b.tick();
-            c = after.controller;
-            at = to;
-        }
-        c
+// A pin's level after a firing that is a pulse, or raises the wire for good, or does neither.
+fn struck_level(pulse: bool, rise: bool, before: u8) -> u8
+    ensures { λ r. ⌜ r ≡ struckLevel pulse rise before ⌝ }
+{
+    if pulse {
+        return before;
     }
+    if rise { 1 } else { before }
+}
 
-    // n ticks at once, of a well-formed board.
-    fn advancing(self, n: u32) -> Turn
-        requires { ⌜ wellFormed self ≡ true ⌝ }
-        ensures { λ r. ⌜ r ≡ advancingOf self n ⌝ }
+// And whether it holds an edge.
+fn struck_held(low: u32, pulse: bool, rise: bool, before: u8, held: u8) -> u8
+    ensures { λ r. ⌜ r ≡ struckHeld low pulse rise before held ⌝ }
+{
+    let up = Low(low).held_after(before, 1, held);
+    if pulse {
+        return Low(low).held_after(1, before, up);
+    }
+    if rise { up } else { held }
+}
+
+// The entries after n ticks at which these timers fire first at the ticks given. The pins change in two arrays of their own: a
+// firing that took and gave the entries would copy them.
+fn struck(e: Entries, s: Timers, firsts: [u32; 3], n: u32) -> Entries
+    ensures { λ r. ⌜ r ≡ struck s firsts n e ⌝ }
+{
+    let low = e.low;
+    let destination = e.destination;
+    let mut level = e.level;
+    let mut held = e.held;
+    let mut at: u32 = 0;
+    while at < n {
+        let to = next(firsts, at, n);
+        if !due(firsts, to) {
+            return Entries {
+                low,
+                destination,
+                level,
+                held,
+            };
+        }
+        let mut m: usize = 0;
+        while m < Timers::COUNT {
+            let p = s.route(m);
+            if (firsts[m] == to) & (p < Entries::PINS) {
+                let pulse = s.pulses(m);
+                let rise = s.raises(m);
+                let before = level[p];
+                held[p] = struck_held(low[p], pulse, rise, before, held[p]);
+                level[p] = struck_level(pulse, rise, before);
+            }
+            m += 1;
+        }
+        at = to;
+    }
+    Entries {
+        low,
+        destination,
+        level,
+        held,
+    }
+}
+
+impl Board {
+    // n ticks at once: on a well-formed board, what the n-fold single tick gives.
+    pub fn advancing(self, n: u32) -> Turn
+        ensures { λ r. ⌜ r ≡ advancingAt self n ⌝ }
     {
         let s = self.timers;
+        let c = self.controller;
         let outside = self.outside;
+        let entries = c.entries;
         let r = s.ran(n);
         let timers = r.timers;
         let fired = r.fired;
         let firsts = r.first;
-        let controller = self.pins(firsts, n);
+        let mut controller = c;
+        controller.entries = struck(entries, s, firsts, n);
         Turn {
             board: Board {
                 timers,

@@ -1,10 +1,10 @@
-// Every call: the board is tested once, then the call is served.
+// Every call: the board is tested once, then the call is served. A call named -ing is what the call does once the board is known
+// to be well formed: the monitor tests it where it lies.
 ghost use mathlib.Core.Path.{_≡_};
-ghost use mathlib.Core.Bool.{true};
 ghost use Rattle.board.specs.declared.Call.the-variants as call;
 ghost use Rattle.board.specs.State.{refused};
-ghost use Rattle.board.specs.Formed.{wellFormed};
-ghost use Rattle.board.specs.Step.{readingOf, writingOf, wiringOf, endingOf, deliveringOnBoard, servedOf, turnOf};
+ghost use Rattle.board.specs.Step.{readingOf, writingOf, endingOf, deliveringOnBoard, turnOf};
+ghost use Rattle.board.specs.At.{wiringAt};
 use crate::Board;
 use crate::Call;
 use crate::Turn;
@@ -26,7 +26,7 @@ impl Board {
         }
     }
 
-    fn reading(self, window: u64, width: u64, offset: u64) -> Turn
+    pub fn reading(self, window: u64, width: u64, offset: u64) -> Turn
         ensures { λ r. ⌜ r ≡ readingOf self window width offset ⌝ }
     {
         if window == Board::CONTROLLER {
@@ -53,7 +53,7 @@ impl Board {
         self.refused(Refusal::Window)
     }
 
-    fn writing(self, window: u64, width: u64, offset: u64, value: u64) -> Turn
+    pub fn writing(self, window: u64, width: u64, offset: u64, value: u64) -> Turn
         ensures { λ r. ⌜ r ≡ writingOf self window width offset value ⌝ }
     {
         if window == Board::CONTROLLER {
@@ -83,10 +83,9 @@ impl Board {
         self.refused(Refusal::Window)
     }
 
-    // One wire changes, so one pin can: the board is well formed, and its other levels are the rule's already.
-    fn wiring(self, pin: u64, level: u64) -> Turn
-        requires { ⌜ wellFormed self ≡ true ⌝ }
-        ensures { λ r. ⌜ r ≡ wiringOf self pin level ⌝ }
+    // One wire changes, so one pin can: the other levels of a well-formed board are the rule's already.
+    pub fn wiring(self, pin: u64, level: u64) -> Turn
+        ensures { λ r. ⌜ r ≡ wiringAt self pin level ⌝ }
     {
         if Controller::PINS <= pin {
             return self.refused(Refusal::Pin);
@@ -110,7 +109,7 @@ impl Board {
         }
     }
 
-    fn ending(self, vector: u8) -> Turn
+    pub fn ending(self, vector: u8) -> Turn
         ensures { λ r. ⌜ r ≡ endingOf self vector ⌝ }
     {
         let c = self.controller;
@@ -122,7 +121,7 @@ impl Board {
         }
     }
 
-    fn delivering(self) -> Turn
+    pub fn delivering(self) -> Turn
         ensures { λ r. ⌜ r ≡ deliveringOnBoard self ⌝ }
     {
         let c = self.controller;

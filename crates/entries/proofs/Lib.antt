@@ -4,3 +4,4 @@ pub mod Formed
 pub mod Pulse
 pub mod Apart
 pub mod Delivery
+pub mod One

@@ -5,6 +5,7 @@ use mathlib.Core.Bool.{Bool, true, false, cond}
 use mathlib.Core.Logic.{_⊎_, inl, inr}
 use native.Mathlib.Omega.{arith}
 use native.Mathlib.Nat.{add-zero, add-suc}
+use native.Mathlib.Numerals.{add-one}
 use native.Mathlib.Decide.{ℕ-discrete}
 use lib.Dec.{eqb, eqb·suc-zero}
 use borrow.Author.Tests.{ne-eqb}
@@ -103,3 +104,36 @@ first-fires i n s ne = go (first i n s) (firesIn (ticks n s) i) ne
     go zero true ne = inr refl
     go zero false ne = absurd (ne refl)
     go (suc f) b ne = inl (λ q. omega arith)
+
+-- ---- the tick of the first firing, of n ticks
+
+module _ (i t n : ℕ) (s : Timers) (l : t < n) where
+  to-n : suc t + (n - suc t) ≡ n
+  to-n = omega arith
+
+  kept : (first i (suc t) s ≡ 0 → ⊥) → first i n s ≡ first i (suc t) s
+  kept ne = ap (λ (k : ℕ). first i k s) (sym to-n) ∙ first-kept i (suc t) (n - suc t) s ne
+
+  -- the timer fires there
+  pub first-here : first i n s ≡ suc t → firesIn (ticks t s) i ≡ true
+  first-here e = go (ℕ-discrete (first i (suc t) s) 0)
+    where
+      past : (first i t s ≡ 0 → ⊥) → first i (suc t) s ≡ first i t s
+      past ne = ap (λ (k : ℕ). first i k s) (sym (add-one t)) ∙ first-kept i t 1 s ne
+
+      ends : (first i (suc t) s ≡ 0 → ⊥) → (first i t s ≡ 0 → ⊥) ⊎ (firesIn (ticks t s) i ≡ true) → firesIn (ticks t s) i ≡ true
+      ends ne (inl b) = absurd (omega (arith, kept ne, past b, first-le i t s))
+      ends ne (inr f) = f
+
+      never : first i n s ≡ 0 ⊎ suc t < first i n s → ⊥
+      never (inl q) = omega arith
+      never (inr q) = omega arith
+
+      go : Dec (first i (suc t) s ≡ 0) → firesIn (ticks t s) i ≡ true
+      go (yes z) = absurd (never (rw to-n at (first-later i (suc t) (n - suc t) s z)))
+      go (no ne) = ends ne (first-fires i t s ne)
+
+  -- a timer that fires elsewhere has fired before
+  pub fired-before : firesIn (ticks t s) i ≡ true → (first i n s ≡ suc t → ⊥) → first i t s ≡ 0 → ⊥
+  unfolding first
+  fired-before f ne z = ne (kept (fires-first i t s f) ∙ rw (z, f))

@@ -1,6 +1,10 @@
-use mathlib.Core.Path.{_≡_, refl, sym, ap, _∙_}
-use borrow.Author.Tests.{not-true, not-false, lt-ltb, le-ltb, le-leb, lt-leb, eq-eqb, ne-eqb}
+use mathlib.Core.Path.{_≡_, sym, _∙_}
+use mathlib.Core.Bool.{true}
+use lib.ListN.{length}
+use Rattle.board.specs.Formed.{wellFormed}
 use Rattle.board.specs.Step.{turnOf, servedOf}
+use Rattle.board.proofs.Formed.{Formed, formed-in}
+use Rattle.board.proofs.At.{advancing-at}
 use borrow.Author.Needs.{needs}
 use Rattle.board.proofs.Board.advance.Statement.{statement}
 use Rattle.board.proofs.Board.advance.Tie as tie
@@ -10,24 +14,36 @@ use Rattle.board.proofs.Board.advancing.Reads as advancing-reads
 use Rattle.board.proofs.Board.refused.Reads as refused-reads
 use Rattle.board.proofs.Board.well_formed.Reads as well-formed-reads
 
--- src/advance.rt:88:12
+formed : (s : tie.Start) → wellFormed (s .args .self) ≡ true → Formed (s .args .self)
+formed s e =
+    let b = s .args .self in
+    let low : length (b .controller .entries .low) ≡ 24 = search needs in
+    let destination : length (b .controller .entries .destination) ≡ 24 = search needs in
+    let level : length (b .controller .entries .level) ≡ 24 = search needs in
+    let held : length (b .controller .entries .held) ≡ 24 = search needs in
+    formed-in b e (record { low = low; destination = destination; level = level; held = held })
+
+-- src/advance.rt:132:12
 well-formed-requires : tie.Need-well-formed-requires
 well-formed-requires c κs = search needs
 
--- src/advance.rt:89:13
+-- src/advance.rt:133:13
 advancing-requires : tie.Need-advancing-requires
-advancing-requires c κs = sym (c .before .well-formed .ensures) ∙ c .if1 .taken
+advancing-requires c κs = search needs
 
--- src/advance.rt:91:13
+-- src/advance.rt:135:13
 refused-requires : tie.Need-refused-requires
 refused-requires c κs = search needs
 
--- src/advance.rt:85:5
+-- src/advance.rt:129:5
 returns : tie.Need-returns
 unfolding turnOf servedOf
-returns c = rw (sym (c .before .before .well-formed .ensures) ∙ c .before .if1 .taken) (c .advancing .ensures)
+returns c =
+    let s = c .before .before .before in
+    let e = sym (c .before .before .well-formed .ensures) ∙ c .before .if1 .taken in
+    rw e (c .advancing .ensures ∙ advancing-at (s .args .self) (formed s e) (s .args .ticks))
 
--- src/advance.rt:85:5
+-- src/advance.rt:129:5
 returns-2 : tie.Need-returns-2
 unfolding turnOf servedOf
 returns-2 c = rw (sym (c .before .before .well-formed .ensures) ∙ c .before .if1 .left) (c .refused .ensures)

@@ -1,18 +1,14 @@
-use mathlib.Core.Path.{_≡_, refl, sym, ap, _∙_}
-use borrow.Author.Tests.{not-true, not-false, lt-ltb, le-ltb, le-leb, lt-leb, eq-eqb, ne-eqb}
+use mathlib.Core.Path.{_≡_, ap, _∙_}
 use mathlib.Core.Bool.{Bool, _||_}
 use lib.Dec.{eqb}
-use lib.ListN.{length, set}
+use lib.ListN.{set}
 use mir.Val.{boolByte}
-use Prim.Native.Nat.{ℕ}
+use borrow.Author.Tests.{lt-ltb, le-ltb, le-leb, lt-leb}
 use Rattle.answers.specs.declared.Answer.the-variants as answer
 use Rattle.controller.specs.declared.Controller.{Controller}
 use Rattle.controller.specs.Steps.{rewiredAt}
-use Rattle.board.specs.declared.Board.{Board}
 use Rattle.board.specs.State.{board, turn}
-use Rattle.board.specs.Step.{wiringOf}
-use Rattle.board.proofs.Formed.{Formed, formed-in}
-use Rattle.board.proofs.Wire.{joined-one}
+use Rattle.board.specs.At.{wiringAt}
 use borrow.Author.Needs.{needs}
 use Rattle.board.proofs.Board.wiring.Statement.{statement}
 use Rattle.board.proofs.Board.wiring.Tie as tie
@@ -22,71 +18,59 @@ use Rattle.board.proofs.Board.refused.Reads as refused-reads
 use Rattle.controller.proofs.Controller.rewired_at.Reads as rewired-at-reads
 use Rattle.timers.proofs.Timers.drives.Reads as drives-reads
 
-formed : (s : tie.Start) → Formed (s .args .self)
-formed s =
-    let b = s .args .self in
-    let low : length (b .controller .entries .low) ≡ 24 = search needs in
-    let destination : length (b .controller .entries .destination) ≡ 24 = search needs in
-    let level : length (b .controller .entries .level) ≡ 24 = search needs in
-    let held : length (b .controller .entries .held) ≡ 24 = search needs in
-    formed-in b (s .pre) (record { low = low; destination = destination; level = level; held = held })
-
--- src/step.rt:92:13
+-- src/step.rt:91:13
 refused-requires : tie.Need-refused-requires
 refused-requires c κs = search needs
 
--- src/step.rt:92:13
+-- src/step.rt:91:13
 returns : tie.Need-returns
-unfolding wiringOf
+unfolding wiringAt
 returns c = rw (le-ltb _ _ (c .before .if1 .taken)) (c .refused .ensures)
 
--- src/step.rt:95:13
+-- src/step.rt:94:13
 refused-requires-2 : tie.Need-refused-requires-2
 refused-requires-2 c κs = search needs
 
--- src/step.rt:95:13
+-- src/step.rt:94:13
 returns-2 : tie.Need-returns-2
-unfolding wiringOf
+unfolding wiringAt
 returns-2 c = rw (lt-ltb _ _ (c .before .before .if1 .left), lt-leb _ _ (c .before .if2 .taken)) (c .refused2 .ensures)
 
--- src/step.rt:101:22
+-- src/step.rt:100:22
 cast-outside : tie.Need-cast-outside
 cast-outside c = search needs
 
--- src/step.rt:101:9
+-- src/step.rt:100:9
 array-write-outside : tie.Need-array-write-outside
 array-write-outside c = search needs
 
--- src/step.rt:102:49
+-- src/step.rt:101:49
 cast-drives : tie.Need-cast-drives
 cast-drives c = search needs
 
--- src/step.rt:102:35
+-- src/step.rt:101:35
 drives-requires : tie.Need-drives-requires
 drives-requires c κs = search needs
 
--- src/step.rt:106:45
+-- src/step.rt:105:45
 cast-rewired-at : tie.Need-cast-rewired-at
 cast-rewired-at c = search needs
 
--- src/step.rt:106:29
+-- src/step.rt:105:29
 rewired-at-requires : tie.Need-rewired-at-requires
 rewired-at-requires c κs = search needs
 
 -- src/step.rt:87:5
 returns-3 : tie.Need-returns-3
-unfolding wiringOf
+unfolding wiringAt
 returns-3 c =
-    let d = c .before in
     let s = c .before .before .before .before .before .before .before in
     let b = s .args .self in
     let p = s .args .pin in
     let l = s .args .level in
-    let long : length (b .outside) ≡ 24 = search needs in
     rw (lt-ltb p 24 (c .before .before .before .before .before .before .if1 .left), le-leb l 1 (c .before .before .before .before .before .if2 .left))
     (ap (λ (x : Controller). turn (board x (b .timers) (set (b .outside) p l)) answer.Done)
-    (c .rewired-at .ensures ∙ ap (λ (y : Bool). rewiredAt (b .controller) p (boolByte (eqb l 1 || y))) (d .drives .ensures))
-    ∙ ap (λ (x : Board). turn x answer.Done) (joined-one b (formed s) p l long (c .before .before .before .before .before .before .if1 .left)))
+    (c .rewired-at .ensures ∙ ap (λ (y : Bool). rewiredAt (b .controller) p (boolByte (eqb l 1 || y))) (c .before .drives .ensures)))
 
 pub wiring-spec : {M : Type 1} → statement M
 wiring-spec =

@@ -1,0 +1,52 @@
+-- A pulse is a change at one pin.
+use mathlib.Core.Path.{_≡_, refl, sym, ap, ap₂, _∙_}
+use mathlib.Core.List.{List}
+use Prim.Native.Nat.{ℕ, _<_}
+use lib.ListN.{getD, length, set, length-set}
+use lib.Seq.{getD-set-same, set-getD, set-set}
+use Rattle.entries.specs.declared.Entries.{Entries}
+use Rattle.entries.specs.Pin.{heldAfter}
+use Rattle.entries.specs.Table.{lowAt, levelAt, heldAt, withHeld, withLevel, wired, wiredAt, pulsed}
+use Rattle.entries.proofs.Sized.{Sized}
+use Rattle.entries.proofs.Pulse.{wired-one}
+
+module _ (e : Entries) (z : Sized e) (p : ℕ) (l : p < 24) where
+  -- the wire up, and down again
+  abbrev up : ℕ
+  up = heldAfter (lowAt e p) (levelAt e p) 1 (heldAt e p)
+
+  abbrev raised : Entries
+  raised = withLevel (withHeld e (set (e .held) p up)) (set (e .level) p 1)
+
+  at-raised : wiredAt e p 1 ≡ raised
+  unfolding wiredAt
+  at-raised = refl
+
+  raised-sized : Sized raised
+  raised-sized =
+      record {
+        low = z .low;
+        destination = z .destination;
+        level = length-set (e .level) p 1 ∙ z .level;
+        held = length-set (e .held) p up ∙ z .held;
+      }
+
+  abbrev dropped : ℕ → ℕ → Entries
+  dropped level held = withLevel (withHeld e (set (set (e .held) p up) p (heldAfter (lowAt e p) level (levelAt e p) held))) (set (set (e .level) p 1) p (levelAt e p))
+
+  at-dropped : wiredAt raised p (levelAt e p) ≡ dropped (levelAt raised p) (heldAt raised p)
+  unfolding wiredAt
+  at-dropped = refl
+
+  back : set (set (e .level) p 1) p (levelAt e p) ≡ e .level
+  back = set-set (e .level) p 1 (levelAt e p) ∙ set-getD (e .level) p 0
+
+  pub pulsed-one : pulsed e (e .level) p ≡ withHeld e (set (e .held) p (heldAfter (lowAt e p) 1 (levelAt e p) up))
+  unfolding pulsed
+  pulsed-one =
+      ap (λ (x : Entries). wired x (e .level)) (wired-one e z p l 1 ∙ at-raised)
+      ∙ ap (wired raised) (sym back)
+      ∙ wired-one raised raised-sized p l (levelAt e p)
+      ∙ at-dropped
+      ∙ ap₂ dropped (getD-set-same (e .level) p 1 0 (rw (z .level) l)) (getD-set-same (e .held) p up 0 (rw (z .held) l))
+      ∙ ap₂ (λ (h v : List ℕ). withLevel (withHeld e h) v) (set-set (e .held) p up (heldAfter (lowAt e p) 1 (levelAt e p) up)) back
