@@ -26,7 +26,7 @@ impl Board {
         }
     }
 
-    fn reading(self, window: u64, width: u64, offset: u64) -> Turn
+    pub fn reading(self, window: u64, width: u64, offset: u64) -> Turn
         ensures { λ r. ⌜ r ≡ readingOf self window width offset ⌝ }
     {
         if window == Board::CONTROLLER {
@@ -53,7 +53,7 @@ impl Board {
         self.refused(Refusal::Window)
     }
 
-    fn writing(self, window: u64, width: u64, offset: u64, value: u64) -> Turn
+    pub fn writing(self, window: u64, width: u64, offset: u64, value: u64) -> Turn
         ensures { λ r. ⌜ r ≡ writingOf self window width offset value ⌝ }
     {
         if window == Board::CONTROLLER {
@@ -110,7 +110,7 @@ impl Board {
         }
     }
 
-    fn ending(self, vector: u8) -> Turn
+    pub fn ending(self, vector: u8) -> Turn
         ensures { λ r. ⌜ r ≡ endingOf self vector ⌝ }
     {
         let c = self.controller;
@@ -122,7 +122,7 @@ impl Board {
         }
     }
 
-    fn delivering(self) -> Turn
+    pub fn delivering(self) -> Turn
         ensures { λ r. ⌜ r ≡ deliveringOnBoard self ⌝ }
     {
         let c = self.controller;
