@@ -2,11 +2,14 @@
 ghost use mathlib.Core.Path.{_≡_};
 ghost use Rattle.answers.specs.Numbers.{numbersOf};
 ghost use Rattle.board.specs.declared.Call.the-variants as call;
-ghost use Rattle.board.specs.Step.{turnOf};
+ghost use Rattle.answers.specs.declared.Answer.the-variants as answer;
+ghost use Rattle.answers.specs.declared.Refusal.the-variants as refusal;
+ghost use Rattle.board.specs.Step.{turnOf, deliveringOnBoard};
 ghost use Rattle.monitor.specs.Lent.{outOf, resetTurn};
 use crate::Out;
 use answers::Answer;
 use answers::Numbers;
+use answers::Refusal;
 use board::Board;
 use board::Turn;
 
@@ -64,7 +67,14 @@ pub fn advance(b: Board, ticks: u32) -> Out
 }
 
 pub fn deliver(b: Board) -> Out
-    ensures { λ r. ⌜ r ≡ outOf (turnOf b call.Deliver) ⌝ }
+    ensures { λ r. ⌜ r ≡ outOf (deliveringOnBoard b) ⌝ }
 {
-    out(b.deliver())
+    out(b.delivering())
+}
+
+// The numbers of refusal 5.
+pub fn refused() -> Numbers
+    ensures { λ r. ⌜ r ≡ numbersOf (answer.Refused refusal.State) ⌝ }
+{
+    Answer::Refused(Refusal::State).numbers()
 }

@@ -3,7 +3,8 @@
 mod calls;
 
 ghost use Rattle.board.specs.declared.Call.the-variants as call;
-ghost use Rattle.board.specs.Step.{turnOf};
+ghost use Rattle.board.specs.Step.{turnOf, formed as wellFormed};
+ghost use mathlib.Core.Path.{_≡_};
 ghost use Rattle.monitor.specs.Lent.{Gives, resetTurn};
 use answers::Numbers;
 use board::Board;
@@ -11,6 +12,14 @@ use board::Board;
 pub struct Out {
     pub board: Board,
     pub numbers: Numbers,
+}
+
+// Whether the board is well formed, where it lies.
+fn formed(b: &Board) -> bool
+    ensures { λ r. ⌜ r ≡ wellFormed (now (b .entry)) ⌝ }
+{
+    let s = *b;
+    s.well_formed()
 }
 
 // Whatever was there.
@@ -83,8 +92,11 @@ pub extern "C" fn nataqvoju_advance(b: &mut Board, ticks: u32) -> Numbers
 pub extern "C" fn nataqvoju_deliver(b: &mut Board) -> Numbers
     ensures { λ r. ⌜ Gives (turnOf (now (b .entry)) call.Deliver) (now (b .exit)) r ⌝ }
 {
-    let s = *b;
-    let o = calls::deliver(s);
-    *b = o.board;
-    o.numbers
+    if formed(b) {
+        let s = *b;
+        let o = calls::deliver(s);
+        *b = o.board;
+        return o.numbers;
+    }
+    calls::refused()
 }
