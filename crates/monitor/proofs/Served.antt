@@ -37,3 +37,7 @@ gives b c o w e = (ap (λ (r : Out). r .board) e ∙ ap (λ (t : Turn). t .board
 -- and where it is not
 pub refuses : (b : Board) (c : Call) (r : Numbers) → T (not (wellFormed b)) → r ≡ numbersOf (answer.Refused refusal.State) → Gives (turnOf b c) b r
 refuses b c r w e = (ap (λ (t : Turn). t .board) (sym (turn-refused b c w)), e ∙ ap (λ (t : Turn). numbersOf (t .answer)) (sym (turn-refused b c w)))
+
+-- a call that leaves the board, with its numbers alone
+pub tells : (b : Board) (c : Call) (r : Numbers) → T (wellFormed b) → b ≡ turnOf b c .board → r ≡ numbersOf (servedOf b c .answer) → Gives (turnOf b c) b r
+tells b c r w kept e = (kept, e ∙ ap (λ (t : Turn). numbersOf (t .answer)) (sym (turn-served b c w)))

@@ -4,7 +4,7 @@ ghost use Rattle.answers.specs.Numbers.{numbersOf};
 ghost use Rattle.board.specs.declared.Call.the-variants as call;
 ghost use Rattle.answers.specs.declared.Answer.the-variants as answer;
 ghost use Rattle.answers.specs.declared.Refusal.the-variants as refusal;
-ghost use Rattle.board.specs.Step.{turnOf, deliveringOnBoard};
+ghost use Rattle.board.specs.Step.{turnOf, readingOf, writingOf, endingOf, deliveringOnBoard};
 ghost use Rattle.monitor.specs.Lent.{outOf, resetTurn};
 use crate::Out;
 use answers::Answer;
@@ -35,17 +35,17 @@ pub fn reset(_b: Board) -> Out
 
 // A read leaves the board, so only the numbers come back.
 pub fn read(b: Board, window: u64, width: u64, offset: u64) -> Numbers
-    ensures { λ r. ⌜ r ≡ numbersOf (turnOf b (call.Read window width offset) .answer) ⌝ }
+    ensures { λ r. ⌜ r ≡ numbersOf (readingOf b window width offset .answer) ⌝ }
 {
-    let turn = b.read(window, width, offset);
+    let turn = b.reading(window, width, offset);
     let answer = turn.answer;
     answer.numbers()
 }
 
 pub fn write(b: Board, window: u64, width: u64, offset: u64, value: u64) -> Out
-    ensures { λ r. ⌜ r ≡ outOf (turnOf b (call.Write window width offset value)) ⌝ }
+    ensures { λ r. ⌜ r ≡ outOf (writingOf b window width offset value) ⌝ }
 {
-    out(b.write(window, width, offset, value))
+    out(b.writing(window, width, offset, value))
 }
 
 pub fn wire(b: Board, pin: u64, level: u64) -> Out
@@ -55,9 +55,9 @@ pub fn wire(b: Board, pin: u64, level: u64) -> Out
 }
 
 pub fn end(b: Board, vector: u8) -> Out
-    ensures { λ r. ⌜ r ≡ outOf (turnOf b (call.End vector)) ⌝ }
+    ensures { λ r. ⌜ r ≡ outOf (endingOf b vector) ⌝ }
 {
-    out(b.end(vector))
+    out(b.ending(vector))
 }
 
 pub fn advance(b: Board, ticks: u32) -> Out

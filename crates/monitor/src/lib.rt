@@ -38,8 +38,11 @@ pub extern "C" fn nataqvoju_reset(b: &mut Board) -> Numbers
 pub extern "C" fn nataqvoju_read(b: &mut Board, window: u64, width: u64, offset: u64) -> Numbers
     ensures { λ r. ⌜ Gives (turnOf (now (b .entry)) (call.Read window width offset)) (now (b .exit)) r ⌝ }
 {
-    let s = *b;
-    calls::read(s, window, width, offset)
+    if formed(b) {
+        let s = *b;
+        return calls::read(s, window, width, offset);
+    }
+    calls::refused()
 }
 
 #[no_mangle]
@@ -52,10 +55,13 @@ pub extern "C" fn nataqvoju_write(
 ) -> Numbers
     ensures { λ r. ⌜ Gives (turnOf (now (b .entry)) (call.Write window width offset value)) (now (b .exit)) r ⌝ }
 {
-    let s = *b;
-    let o = calls::write(s, window, width, offset, value);
-    *b = o.board;
-    o.numbers
+    if formed(b) {
+        let s = *b;
+        let o = calls::write(s, window, width, offset, value);
+        *b = o.board;
+        return o.numbers;
+    }
+    calls::refused()
 }
 
 #[no_mangle]
@@ -72,10 +78,13 @@ pub extern "C" fn nataqvoju_wire(b: &mut Board, pin: u64, level: u64) -> Numbers
 pub extern "C" fn nataqvoju_end(b: &mut Board, vector: u8) -> Numbers
     ensures { λ r. ⌜ Gives (turnOf (now (b .entry)) (call.End vector)) (now (b .exit)) r ⌝ }
 {
-    let s = *b;
-    let o = calls::end(s, vector);
-    *b = o.board;
-    o.numbers
+    if formed(b) {
+        let s = *b;
+        let o = calls::end(s, vector);
+        *b = o.board;
+        return o.numbers;
+    }
+    calls::refused()
 }
 
 #[no_mangle]
