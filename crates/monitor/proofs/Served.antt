@@ -10,7 +10,8 @@ use Rattle.board.specs.declared.Board.{Board}
 use Rattle.board.specs.declared.Call.{Call}
 use Rattle.board.specs.declared.Turn.{Turn}
 use Rattle.board.specs.State.{refused}
-use Rattle.board.specs.Step.{turnOf, servedOf, formed as wellFormed}
+use Rattle.board.specs.Formed.{wellFormed}
+use Rattle.board.specs.Step.{turnOf, servedOf}
 use Rattle.monitor.specs.declared.Out.{Out}
 use Rattle.monitor.specs.Lent.{outOf, Gives}
 

@@ -46,7 +46,7 @@ use Rattle.answers.specs.declared.Refusal.the-variants as refusal
 use Rattle.answers.specs.declared.Numbers.{Numbers}
 use Rattle.answers.specs.Numbers.{numbersOf}
 use Rattle.answers.proofs.Numbers as R
-use Rattle.board.specs.Step.{formed as wellFormed}
+use Rattle.board.specs.Formed.{wellFormed}
 use Rattle.board.specs.declared.Board.{Board}
 use Rattle.board.proofs.Board as T
 use Rattle.board.proofs.Board.Laws as T′

@@ -1,9 +1,10 @@
-// The board's calls by value, with the answer as numbers.
+// The board's calls by value, with the answer as numbers. The entry has tested the board where it lies, but for a wire change and
+// an advance, which test it here.
 ghost use mathlib.Core.Path.{_≡_};
-ghost use Rattle.answers.specs.Numbers.{numbersOf};
-ghost use Rattle.board.specs.declared.Call.the-variants as call;
 ghost use Rattle.answers.specs.declared.Answer.the-variants as answer;
 ghost use Rattle.answers.specs.declared.Refusal.the-variants as refusal;
+ghost use Rattle.answers.specs.Numbers.{numbersOf};
+ghost use Rattle.board.specs.declared.Call.the-variants as call;
 ghost use Rattle.board.specs.Step.{turnOf, readingOf, writingOf, endingOf, deliveringOnBoard};
 ghost use Rattle.monitor.specs.Lent.{outOf, resetTurn};
 use crate::Out;

@@ -2,9 +2,10 @@
 // as numbers. Every byte pattern of the lent memory is a board: one that is not well formed gets 5 and stays as it is.
 mod calls;
 
-ghost use Rattle.board.specs.declared.Call.the-variants as call;
-ghost use Rattle.board.specs.Step.{turnOf, formed as wellFormed};
 ghost use mathlib.Core.Path.{_≡_};
+ghost use Rattle.board.specs.declared.Call.the-variants as call;
+ghost use Rattle.board.specs.Formed.{wellFormed};
+ghost use Rattle.board.specs.Step.{turnOf};
 ghost use Rattle.monitor.specs.Lent.{Gives, resetTurn};
 use answers::Numbers;
 use board::Board;
