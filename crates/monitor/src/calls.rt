@@ -1,5 +1,5 @@
-// The board's calls by value, with the answer as numbers. The entry has tested the board where it lies, but for a wire change and
-// an advance, which test it here.
+// The board's calls by value, with the answer as numbers. The entry has tested the board already, but for a wire change and an
+// advance, which test it here.
 ghost use mathlib.Core.Path.{_≡_};
 ghost use Rattle.answers.specs.declared.Answer.the-variants as answer;
 ghost use Rattle.answers.specs.declared.Refusal.the-variants as refusal;

@@ -15,7 +15,7 @@ pub struct Out {
     pub numbers: Numbers,
 }
 
-// Whether the board is well formed, where it lies.
+// Whether the lent board is well formed: by `&`, so that a refused call stores nothing.
 fn formed(b: &Board) -> bool
     ensures { λ r. ⌜ r ≡ wellFormed (now (b .entry)) ⌝ }
 {
