@@ -1,1 +1,3 @@
 pub mod Decided
+mod Served
+mod Tested

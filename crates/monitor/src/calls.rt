@@ -1,12 +1,16 @@
-// The board's calls by value, with the answer as numbers.
+// The board's calls by value, with the answer as numbers. The entry has tested the board already, but for a wire change and an
+// advance, which test it here.
 ghost use mathlib.Core.Path.{_≡_};
+ghost use Rattle.answers.specs.declared.Answer.the-variants as answer;
+ghost use Rattle.answers.specs.declared.Refusal.the-variants as refusal;
 ghost use Rattle.answers.specs.Numbers.{numbersOf};
 ghost use Rattle.board.specs.declared.Call.the-variants as call;
-ghost use Rattle.board.specs.Step.{turnOf};
+ghost use Rattle.board.specs.Step.{turnOf, readingOf, writingOf, endingOf, deliveringOnBoard};
 ghost use Rattle.monitor.specs.Lent.{outOf, resetTurn};
 use crate::Out;
 use answers::Answer;
 use answers::Numbers;
+use answers::Refusal;
 use board::Board;
 use board::Turn;
 
@@ -32,17 +36,17 @@ pub fn reset(_b: Board) -> Out
 
 // A read leaves the board, so only the numbers come back.
 pub fn read(b: Board, window: u64, width: u64, offset: u64) -> Numbers
-    ensures { λ r. ⌜ r ≡ numbersOf (turnOf b (call.Read window width offset) .answer) ⌝ }
+    ensures { λ r. ⌜ r ≡ numbersOf (readingOf b window width offset .answer) ⌝ }
 {
-    let turn = b.read(window, width, offset);
+    let turn = b.reading(window, width, offset);
     let answer = turn.answer;
     answer.numbers()
 }
 
 pub fn write(b: Board, window: u64, width: u64, offset: u64, value: u64) -> Out
-    ensures { λ r. ⌜ r ≡ outOf (turnOf b (call.Write window width offset value)) ⌝ }
+    ensures { λ r. ⌜ r ≡ outOf (writingOf b window width offset value) ⌝ }
 {
-    out(b.write(window, width, offset, value))
+    out(b.writing(window, width, offset, value))
 }
 
 pub fn wire(b: Board, pin: u64, level: u64) -> Out
@@ -52,9 +56,9 @@ pub fn wire(b: Board, pin: u64, level: u64) -> Out
 }
 
 pub fn end(b: Board, vector: u8) -> Out
-    ensures { λ r. ⌜ r ≡ outOf (turnOf b (call.End vector)) ⌝ }
+    ensures { λ r. ⌜ r ≡ outOf (endingOf b vector) ⌝ }
 {
-    out(b.end(vector))
+    out(b.ending(vector))
 }
 
 pub fn advance(b: Board, ticks: u32) -> Out
@@ -64,7 +68,14 @@ pub fn advance(b: Board, ticks: u32) -> Out
 }
 
 pub fn deliver(b: Board) -> Out
-    ensures { λ r. ⌜ r ≡ outOf (turnOf b call.Deliver) ⌝ }
+    ensures { λ r. ⌜ r ≡ outOf (deliveringOnBoard b) ⌝ }
 {
-    out(b.deliver())
+    out(b.delivering())
+}
+
+// The numbers of refusal 5.
+pub fn refused() -> Numbers
+    ensures { λ r. ⌜ r ≡ numbersOf (answer.Refused refusal.State) ⌝ }
+{
+    Answer::Refused(Refusal::State).numbers()
 }

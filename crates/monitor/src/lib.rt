@@ -2,7 +2,9 @@
 // as numbers. Every byte pattern of the lent memory is a board: one that is not well formed gets 5 and stays as it is.
 mod calls;
 
+ghost use mathlib.Core.Path.{_≡_};
 ghost use Rattle.board.specs.declared.Call.the-variants as call;
+ghost use Rattle.board.specs.Formed.{wellFormed};
 ghost use Rattle.board.specs.Step.{turnOf};
 ghost use Rattle.monitor.specs.Lent.{Gives, resetTurn};
 use answers::Numbers;
@@ -11,6 +13,14 @@ use board::Board;
 pub struct Out {
     pub board: Board,
     pub numbers: Numbers,
+}
+
+// Whether the lent board is well formed: by `&`, so that a refused call stores nothing.
+fn formed(b: &Board) -> bool
+    ensures { λ r. ⌜ r ≡ wellFormed (now (b .entry)) ⌝ }
+{
+    let s = *b;
+    s.well_formed()
 }
 
 // Whatever was there.
@@ -29,8 +39,11 @@ pub extern "C" fn nataqvoju_reset(b: &mut Board) -> Numbers
 pub extern "C" fn nataqvoju_read(b: &mut Board, window: u64, width: u64, offset: u64) -> Numbers
     ensures { λ r. ⌜ Gives (turnOf (now (b .entry)) (call.Read window width offset)) (now (b .exit)) r ⌝ }
 {
-    let s = *b;
-    calls::read(s, window, width, offset)
+    if formed(b) {
+        let s = *b;
+        return calls::read(s, window, width, offset);
+    }
+    calls::refused()
 }
 
 #[no_mangle]
@@ -43,10 +56,13 @@ pub extern "C" fn nataqvoju_write(
 ) -> Numbers
     ensures { λ r. ⌜ Gives (turnOf (now (b .entry)) (call.Write window width offset value)) (now (b .exit)) r ⌝ }
 {
-    let s = *b;
-    let o = calls::write(s, window, width, offset, value);
-    *b = o.board;
-    o.numbers
+    if formed(b) {
+        let s = *b;
+        let o = calls::write(s, window, width, offset, value);
+        *b = o.board;
+        return o.numbers;
+    }
+    calls::refused()
 }
 
 #[no_mangle]
@@ -63,10 +79,13 @@ pub extern "C" fn nataqvoju_wire(b: &mut Board, pin: u64, level: u64) -> Numbers
 pub extern "C" fn nataqvoju_end(b: &mut Board, vector: u8) -> Numbers
     ensures { λ r. ⌜ Gives (turnOf (now (b .entry)) (call.End vector)) (now (b .exit)) r ⌝ }
 {
-    let s = *b;
-    let o = calls::end(s, vector);
-    *b = o.board;
-    o.numbers
+    if formed(b) {
+        let s = *b;
+        let o = calls::end(s, vector);
+        *b = o.board;
+        return o.numbers;
+    }
+    calls::refused()
 }
 
 #[no_mangle]
@@ -83,8 +102,11 @@ pub extern "C" fn nataqvoju_advance(b: &mut Board, ticks: u32) -> Numbers
 pub extern "C" fn nataqvoju_deliver(b: &mut Board) -> Numbers
     ensures { λ r. ⌜ Gives (turnOf (now (b .entry)) call.Deliver) (now (b .exit)) r ⌝ }
 {
-    let s = *b;
-    let o = calls::deliver(s);
-    *b = o.board;
-    o.numbers
+    if formed(b) {
+        let s = *b;
+        let o = calls::deliver(s);
+        *b = o.board;
+        return o.numbers;
+    }
+    calls::refused()
 }

@@ -8,15 +8,15 @@ use Rattle.monitor.proofs.calls.advance.Lts as lts
 use Rattle.board.proofs.Board.advance.Reads as advance-reads
 use Rattle.monitor.proofs.calls.out.Reads as out-reads
 
--- src/calls.rt:63:9
+-- src/calls.rt:67:9
 advance-requires : tie.Need-advance-requires
 advance-requires c κs = search needs
 
--- src/calls.rt:63:5
+-- src/calls.rt:67:5
 out-requires : tie.Need-out-requires
 out-requires c κs = search needs
 
--- src/calls.rt:60:1
+-- src/calls.rt:64:1
 returns : tie.Need-returns
 returns c = c .out .ensures ∙ ap outOf (c .before .advance .ensures)
 

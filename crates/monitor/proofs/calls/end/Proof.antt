@@ -5,20 +5,20 @@ use Rattle.monitor.proofs.calls.end.Statement.{statement}
 use Rattle.monitor.proofs.calls.end.Tie as tie
 use Rattle.monitor.proofs.calls.end.Reads as reads
 use Rattle.monitor.proofs.calls.end.Lts as lts
-use Rattle.board.proofs.Board.end.Reads as end-reads
+use Rattle.board.proofs.Board.ending.Reads as ending-reads
 use Rattle.monitor.proofs.calls.out.Reads as out-reads
 
--- src/calls.rt:57:9
-end-requires : tie.Need-end-requires
-end-requires c κs = search needs
+-- src/calls.rt:61:9
+ending-requires : tie.Need-ending-requires
+ending-requires c κs = search needs
 
--- src/calls.rt:57:5
+-- src/calls.rt:61:5
 out-requires : tie.Need-out-requires
 out-requires c κs = search needs
 
--- src/calls.rt:54:1
+-- src/calls.rt:58:1
 returns : tie.Need-returns
-returns c = c .out .ensures ∙ ap outOf (c .before .end .ensures)
+returns c = c .out .ensures ∙ ap outOf (c .before .ending .ensures)
 
 pub end-spec : {M : Type 1} → statement M
-end-spec = tie.close (tie.spec end-requires out-requires returns)
+end-spec = tie.close (tie.spec ending-requires out-requires returns)

@@ -7,19 +7,19 @@ use Rattle.monitor.proofs.calls.read.Tie as tie
 use Rattle.monitor.proofs.calls.read.Reads as reads
 use Rattle.monitor.proofs.calls.read.Lts as lts
 use Rattle.answers.proofs.Answer.numbers.Reads as numbers-reads
-use Rattle.board.proofs.Board.read.Reads as read-reads
+use Rattle.board.proofs.Board.reading.Reads as reading-reads
 
--- src/calls.rt:37:16
-read-requires : tie.Need-read-requires
-read-requires c κs = search needs
+-- src/calls.rt:41:16
+reading-requires : tie.Need-reading-requires
+reading-requires c κs = search needs
 
--- src/calls.rt:39:5
+-- src/calls.rt:43:5
 numbers-requires : tie.Need-numbers-requires
 numbers-requires c κs = search needs
 
--- src/calls.rt:34:1
+-- src/calls.rt:38:1
 returns : tie.Need-returns
-returns c = c .numbers .ensures ∙ ap (λ (t : Turn). numbersOf (t .answer)) (c .before .read .ensures)
+returns c = c .numbers .ensures ∙ ap (λ (t : Turn). numbersOf (t .answer)) (c .before .reading .ensures)
 
 pub read-spec : {M : Type 1} → statement M
-read-spec = tie.close (tie.spec read-requires numbers-requires returns)
+read-spec = tie.close (tie.spec reading-requires numbers-requires returns)

@@ -8,15 +8,15 @@ use Rattle.monitor.proofs.calls.wire.Lts as lts
 use Rattle.board.proofs.Board.wire.Reads as wire-reads
 use Rattle.monitor.proofs.calls.out.Reads as out-reads
 
--- src/calls.rt:51:9
+-- src/calls.rt:55:9
 wire-requires : tie.Need-wire-requires
 wire-requires c κs = search needs
 
--- src/calls.rt:51:5
+-- src/calls.rt:55:5
 out-requires : tie.Need-out-requires
 out-requires c κs = search needs
 
--- src/calls.rt:48:1
+-- src/calls.rt:52:1
 returns : tie.Need-returns
 returns c = c .out .ensures ∙ ap outOf (c .before .wire .ensures)
 

@@ -5,20 +5,20 @@ use Rattle.monitor.proofs.calls.write.Statement.{statement}
 use Rattle.monitor.proofs.calls.write.Tie as tie
 use Rattle.monitor.proofs.calls.write.Reads as reads
 use Rattle.monitor.proofs.calls.write.Lts as lts
-use Rattle.board.proofs.Board.write.Reads as write-reads
+use Rattle.board.proofs.Board.writing.Reads as writing-reads
 use Rattle.monitor.proofs.calls.out.Reads as out-reads
 
--- src/calls.rt:45:9
-write-requires : tie.Need-write-requires
-write-requires c κs = search needs
+-- src/calls.rt:49:9
+writing-requires : tie.Need-writing-requires
+writing-requires c κs = search needs
 
--- src/calls.rt:45:5
+-- src/calls.rt:49:5
 out-requires : tie.Need-out-requires
 out-requires c κs = search needs
 
--- src/calls.rt:42:1
+-- src/calls.rt:46:1
 returns : tie.Need-returns
-returns c = c .out .ensures ∙ ap outOf (c .before .write .ensures)
+returns c = c .out .ensures ∙ ap outOf (c .before .writing .ensures)
 
 pub write-spec : {M : Type 1} → statement M
-write-spec = tie.close (tie.spec write-requires out-requires returns)
+write-spec = tie.close (tie.spec writing-requires out-requires returns)
