@@ -23,6 +23,10 @@ left : (z : Bool) (x y : Turn) → T (not z) → cond z x y ≡ y
 left true x y z = absurd z
 left false x y z = refl
 
+pub holds : (z : Bool) → T z → z ≡ true
+holds true w = refl
+holds false w = absurd w
+
 pub turn-served : (b : Board) (c : Call) → T (wellFormed b) → turnOf b c ≡ servedOf b c
 unfolding turnOf
 turn-served b c = taken (wellFormed b) (servedOf b c) (refused b refusal.State)

@@ -1,11 +1,12 @@
-// The board's calls by value, with the answer as numbers. The entry has tested the board already, but for a wire change and an
-// advance, which test it here.
+// The board's calls by value, with the answer as numbers, of a board that the entry has tested already. A wire change and an
+// advance are made at the pins concerned, which is the call on a well-formed board only.
 ghost use mathlib.Core.Path.{_≡_};
+ghost use mathlib.Core.Bool.{true};
 ghost use Rattle.answers.specs.declared.Answer.the-variants as answer;
 ghost use Rattle.answers.specs.declared.Refusal.the-variants as refusal;
 ghost use Rattle.answers.specs.Numbers.{numbersOf};
-ghost use Rattle.board.specs.declared.Call.the-variants as call;
-ghost use Rattle.board.specs.Step.{turnOf, readingOf, writingOf, endingOf, deliveringOnBoard};
+ghost use Rattle.board.specs.Formed.{wellFormed};
+ghost use Rattle.board.specs.Step.{readingOf, writingOf, wiringOf, endingOf, advancingOf, deliveringOnBoard};
 ghost use Rattle.monitor.specs.Lent.{outOf, resetTurn};
 use crate::Out;
 use answers::Answer;
@@ -50,9 +51,9 @@ pub fn write(b: Board, window: u64, width: u64, offset: u64, value: u64) -> Out
 }
 
 pub fn wire(b: Board, pin: u64, level: u64) -> Out
-    ensures { λ r. ⌜ r ≡ outOf (turnOf b (call.Wire pin level)) ⌝ }
+    ensures { λ r. ⌜ (wellFormed b ≡ true → r ≡ outOf (wiringOf b pin level)) ⌝ }
 {
-    out(b.wire(pin, level))
+    out(b.wiring(pin, level))
 }
 
 pub fn end(b: Board, vector: u8) -> Out
@@ -62,9 +63,9 @@ pub fn end(b: Board, vector: u8) -> Out
 }
 
 pub fn advance(b: Board, ticks: u32) -> Out
-    ensures { λ r. ⌜ r ≡ outOf (turnOf b (call.Advance ticks)) ⌝ }
+    ensures { λ r. ⌜ (wellFormed b ≡ true → r ≡ outOf (advancingOf b ticks)) ⌝ }
 {
-    out(b.advance(ticks))
+    out(b.advancing(ticks))
 }
 
 pub fn deliver(b: Board) -> Out

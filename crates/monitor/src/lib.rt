@@ -69,10 +69,13 @@ pub extern "C" fn nataqvoju_write(
 pub extern "C" fn nataqvoju_wire(b: &mut Board, pin: u64, level: u64) -> Numbers
     ensures { λ r. ⌜ Gives (turnOf (now (b .entry)) (call.Wire pin level)) (now (b .exit)) r ⌝ }
 {
-    let s = *b;
-    let o = calls::wire(s, pin, level);
-    *b = o.board;
-    o.numbers
+    if formed(b) {
+        let s = *b;
+        let o = calls::wire(s, pin, level);
+        *b = o.board;
+        return o.numbers;
+    }
+    calls::refused()
 }
 
 #[no_mangle]
@@ -92,10 +95,13 @@ pub extern "C" fn nataqvoju_end(b: &mut Board, vector: u8) -> Numbers
 pub extern "C" fn nataqvoju_advance(b: &mut Board, ticks: u32) -> Numbers
     ensures { λ r. ⌜ Gives (turnOf (now (b .entry)) (call.Advance ticks)) (now (b .exit)) r ⌝ }
 {
-    let s = *b;
-    let o = calls::advance(s, ticks);
-    *b = o.board;
-    o.numbers
+    if formed(b) {
+        let s = *b;
+        let o = calls::advance(s, ticks);
+        *b = o.board;
+        return o.numbers;
+    }
+    calls::refused()
 }
 
 #[no_mangle]
