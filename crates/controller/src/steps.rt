@@ -96,17 +96,16 @@ impl Controller {
     {
         let entries = self.entries;
         let n = entries.first_eligible();
-        if n < Entries::PINS {
-            let mut next = self;
-            next.entries = entries.taken(n);
-            return Turn {
-                controller: next,
-                answer: entries.given(n as u8),
-            };
-        }
+        let answer = if n < Entries::PINS {
+            entries.given(n as u8)
+        } else {
+            Answer::Nothing
+        };
+        let mut next = self;
+        next.entries = entries.taken(n);
         Turn {
-            controller: self,
-            answer: Answer::Nothing,
+            controller: next,
+            answer,
         }
     }
 

@@ -2,7 +2,7 @@
 use Prim.Native.Nat.{ℕ}
 use mathlib.Core.Bool.{Bool, not, cond, _&&_, _||_}
 use lib.Dec.{eqb, leb}
-use Rattle.entries.specs.Word.{vectorOf, modeOf, activeLowOf, remoteOf, levelOf, maskedOf, withoutRemote, wordOk}
+use Rattle.entries.specs.Word.{vectorOf, modeOf, activeLowOf, remoteOf, levelOf, maskedOf, withRemote, withoutRemote, wordOk}
 
 -- a pin is asserted when its wire differs from its active-low bit
 unfoldable pub asserted : ℕ → ℕ → Bool
@@ -24,6 +24,13 @@ eligible w level held =
 -- an end of interrupt with vector v: a level entry whose present vector is v gets remote IRR 0; an edge entry is untouched
 unfoldable pub endedWord : ℕ → ℕ → ℕ
 endedWord w v = cond (levelOf w && eqb (vectorOf w) v) (withoutRemote w) w
+
+-- a delivered pin's word and held edge: only inner functions cite them
+unfoldable pub takenWord : ℕ → ℕ
+takenWord w = cond (levelOf w) (withRemote w) w
+
+unfoldable pub heldTaken : ℕ → ℕ → ℕ
+heldTaken w held = cond (levelOf w) held 0
 
 -- well formed: writable bits only, beside remote IRR; no edge held on a level pin; the level and the held edge are 0 or 1
 unfoldable pub pinOk : ℕ → ℕ → ℕ → Bool

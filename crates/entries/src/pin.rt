@@ -1,6 +1,6 @@
 // One pin: its low word with the level of its wire and its held edge.
 ghost use mathlib.Core.Path.{_≡_};
-ghost use Rattle.entries.specs.Pin.{asserted, makesEdge, heldAfter, eligible, endedWord};
+ghost use Rattle.entries.specs.Pin.{asserted, makesEdge, heldAfter, eligible, endedWord, takenWord, heldTaken};
 use crate::Low;
 
 impl Low {
@@ -43,5 +43,22 @@ impl Low {
         } else {
             self.0
         }
+    }
+
+    // What its delivery leaves of the word, and of a held edge.
+    pub fn taken(self) -> u32
+        ensures { λ r. ⌜ r ≡ takenWord (self .0) ⌝ }
+    {
+        if self.is_level() {
+            self.with_remote()
+        } else {
+            self.0
+        }
+    }
+
+    pub fn held_taken(self, held: u8) -> u8
+        ensures { λ r. ⌜ r ≡ heldTaken (self .0) held ⌝ }
+    {
+        if self.is_level() { held } else { 0 }
     }
 }

@@ -198,16 +198,12 @@ impl Entries {
     pub fn taken(self, n: usize) -> Entries
         ensures { λ r. ⌜ r ≡ taken self n ⌝ }
     {
-        if Entries::PINS <= n {
-            return self;
-        }
         let mut words = self.low;
         let mut held = self.held;
-        let low = Low(words[n]);
-        if low.is_level() {
-            words[n] = low.with_remote();
-        } else {
-            held[n] = 0;
+        if n < Entries::PINS {
+            let low = Low(words[n]);
+            words[n] = low.taken();
+            held[n] = low.held_taken(held[n]);
         }
         let destination = self.destination;
         let level = self.level;

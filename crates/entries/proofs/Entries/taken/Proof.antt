@@ -1,74 +1,73 @@
-use mathlib.Core.Path.{_≡_, sym, ap, ap₂, _∙_}
+use mathlib.Core.Path.{_≡_, sym}
 use mathlib.Core.Logic.{⊎-elim}
 use lib.ListN.{length}
 use Rattle.entries.proofs.Sized.{taken-above}
-use Rattle.entries.specs.Table.{taken}
+use Rattle.entries.proofs.Delivery.{taken-parts}
 use borrow.Author.Needs.{needs}
 use Rattle.entries.proofs.Entries.taken.Statement.{statement}
 use Rattle.entries.proofs.Entries.taken.Tie as tie
 use Rattle.entries.proofs.Entries.taken.Reads as reads
 use Rattle.entries.proofs.Entries.taken.Lts as lts
-use Rattle.entries.proofs.Low.is_level.Reads as is-level-reads
-use Rattle.entries.proofs.Low.with_remote.Reads as with-remote-reads
+use Rattle.entries.proofs.Low.held_taken.Reads as held-taken-reads
+use Rattle.entries.proofs.Low.taken.Reads as taken-reads
 
--- src/table.rt:202:13
-returns : tie.Need-returns
-returns c =
-    let e = c .before .args .self in
-    let a : length (e .low) ≡ 24 = search needs in
-    let b : length (e .destination) ≡ 24 = search needs in
-    let d : length (e .level) ≡ 24 = search needs in
-    let h : length (e .held) ≡ 24 = search needs in
-    sym (taken-above e (record { low = a; destination = b; level = d; held = h }) (c .before .args .n) (c .if1 .taken))
-
--- src/table.rt:206:23
-mul-t9 : tie.Need-mul-t9
-mul-t9 c = search needs
-
--- src/table.rt:206:23
-array-read-t12 : tie.Need-array-read-t12
-array-read-t12 c = search needs
-
--- src/table.rt:207:12
-is-level-requires : tie.Need-is-level-requires
-is-level-requires c κs = search needs
-
--- src/table.rt:208:24
-with-remote-requires : tie.Need-with-remote-requires
-with-remote-requires c κs = search needs
-
--- src/table.rt:208:13
+-- src/table.rt:204:27
 mul-words : tie.Need-mul-words
 mul-words c = search needs
 
--- src/table.rt:208:13
+-- src/table.rt:204:27
+array-read-words : tie.Need-array-read-words
+array-read-words c = search needs
+
+-- src/table.rt:205:24
+taken-requires : tie.Need-taken-requires
+taken-requires c κs = search needs
+
+-- src/table.rt:205:13
+mul-words-2 : tie.Need-mul-words-2
+mul-words-2 c = search needs
+
+-- src/table.rt:205:13
 array-write-words : tie.Need-array-write-words
 array-write-words c = search needs
 
--- src/table.rt:210:13
+-- src/table.rt:206:38
+array-read-held-taken : tie.Need-array-read-held-taken
+array-read-held-taken c = search needs
+
+-- src/table.rt:206:23
+held-taken-requires : tie.Need-held-taken-requires
+held-taken-requires c κs = search needs
+
+-- src/table.rt:206:13
 array-write-held : tie.Need-array-write-held
 array-write-held c = search needs
 
 -- src/table.rt:198:5
-returns-2 : tie.Need-returns-2
-unfolding taken
-returns-2 c =
+returns : tie.Need-returns
+returns c =
     let j = c .before .before in
+    let s = j .before .before .before in
+    let e = s .args .self in
+    let low : length (e .low) ≡ 24 = search needs in
+    let destination : length (e .destination) ≡ 24 = search needs in
+    let level : length (e .level) ≡ 24 = search needs in
+    let held : length (e .held) ≡ 24 = search needs in
     ⊎-elim
-    (λ w. rw (w .2, w .3, sym (j .before .is-level .ensures) ∙ w .0 .taken, w .1 .ensures))
-    (λ w. rw (w .1, w .2, sym (j .before .is-level .ensures) ∙ w .0 .left))
-    (j .if2 .came)
+    (λ w. rw (w .3, w .4, w .1 .ensures, w .2 .ensures) (sym (taken-parts e (s .args .n))))
+    (λ w. rw (w .1, w .2) (sym (taken-above e (record { low = low; destination = destination; level = level; held = held }) (s .args .n) (w .0 .left))))
+    (j .if1 .came)
 
 pub taken-spec : {M : Type 1} → statement M
 taken-spec =
     tie.close
     (tie.spec
-    returns
-    mul-t9
-    array-read-t12
-    is-level-requires
-    with-remote-requires
     mul-words
+    array-read-words
+    taken-requires
+    mul-words-2
     array-write-words
+    array-read-held-taken
+    held-taken-requires
     array-write-held
-    returns-2)
+    returns)
