@@ -1,5 +1,8 @@
-use mathlib.Core.Path.{_≡_, refl, sym, ap, _∙_}
-use borrow.Author.Tests.{not-true, not-false, lt-ltb, le-ltb, le-leb, lt-leb, eq-eqb, ne-eqb}
+use mathlib.Core.Path.{_≡_}
+use mathlib.Core.Logic.{⊎-elim}
+use lib.ListN.{length}
+use borrow.Author.Tests.{lt-ltb, le-ltb}
+use Rattle.entries.proofs.Sized.{Sized, taken-above}
 use Rattle.controller.specs.Steps.{deliveringOf}
 use borrow.Author.Needs.{needs}
 use Rattle.controller.proofs.Controller.delivering.Statement.{statement}
@@ -10,33 +13,44 @@ use Rattle.entries.proofs.Entries.first_eligible.Reads as first-eligible-reads
 use Rattle.entries.proofs.Entries.given.Reads as given-reads
 use Rattle.entries.proofs.Entries.taken.Reads as taken-reads
 
--- src/steps.rt:88:13
+sized : (s : tie.Start) → Sized (s .args .self .entries)
+sized s =
+    let e = s .args .self .entries in
+    let low : length (e .low) ≡ 24 = search needs in
+    let destination : length (e .destination) ≡ 24 = search needs in
+    let level : length (e .level) ≡ 24 = search needs in
+    let held : length (e .held) ≡ 24 = search needs in
+    record { low = low; destination = destination; level = level; held = held }
+
+-- src/steps.rt:98:13
 first-eligible-requires : tie.Need-first-eligible-requires
 first-eligible-requires c κs = search needs
 
--- src/steps.rt:91:13
-taken-requires : tie.Need-taken-requires
-taken-requires c κs = search needs
-
--- src/steps.rt:94:39
+-- src/steps.rt:100:27
 cast-given : tie.Need-cast-given
 cast-given c = search needs
 
--- src/steps.rt:94:25
+-- src/steps.rt:100:13
 given-requires : tie.Need-given-requires
 given-requires c κs = search needs
 
--- src/steps.rt:92:13
+-- src/steps.rt:105:9
+taken-requires : tie.Need-taken-requires
+taken-requires c κs = search needs
+
+-- src/steps.rt:94:5
 returns : tie.Need-returns
 unfolding deliveringOf
-returns c = rw (← (c .before .before .before .first-eligible .ensures), lt-ltb _ _ (c .before .before .if1 .taken), c .before .taken .ensures, c .given .ensures)
-
--- src/steps.rt:84:5
-returns-2 : tie.Need-returns-2
-unfolding deliveringOf
-returns-2 c = rw (← (c .before .first-eligible .ensures), le-ltb _ _ (c .if1 .left))
+returns c =
+    let j = c .before in
+    let x = j .before in
+    let e = x .before .before .args .self .entries in
+    let z = sized (x .before .before) in
+    ⊎-elim
+    (λ w. rw (w .2, ← (x .first-eligible .ensures), lt-ltb _ _ (w .0 .taken), c .taken .ensures, w .1 .ensures))
+    (λ w. rw (w .1, ← (x .first-eligible .ensures), le-ltb _ _ (w .0 .left), c .taken .ensures, taken-above e z (x .first-eligible .result) (w .0 .left)))
+    (j .if1 .came)
 
 pub delivering-spec : {M : Type 1} → statement M
 delivering-spec =
-    tie.close
-    (tie.spec first-eligible-requires taken-requires cast-given given-requires returns returns-2)
+    tie.close (tie.spec first-eligible-requires cast-given given-requires taken-requires returns)
