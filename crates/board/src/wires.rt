@@ -1,6 +1,8 @@
 // The wire rule, and the test of a board.
 ghost use mathlib.Core.Path.{_≡_};
+ghost use mathlib.Core.Bool.{_&&_};
 ghost use Rattle.pins.specs.Pins.{every};
+ghost use Rattle.entries.specs.Table.{levelsOk};
 ghost use Rattle.board.specs.State.{resetBoard};
 ghost use Rattle.board.specs.Wires.{highAt, wiresOf, joined};
 ghost use Rattle.board.specs.Formed.{keptAt, wellFormed};
@@ -46,19 +48,21 @@ impl Board {
         }
     }
 
-    // Each pin level kept is the one that the wire rule gives.
+    // Outside wire levels are 0 or 1, and each pin level kept is the one that the wire rule gives.
     fn kept(self) -> bool
-        ensures { λ r. ⌜ r ≡ every (keptAt self) ⌝ }
+        ensures { λ r. ⌜ r ≡ levelsOk (self .outside) && every (keptAt self) ⌝ }
     {
         let c = self.controller;
         let entries = c.entries;
+        let level = entries.level;
         let timers = self.timers;
         let outside = self.outside;
         let mut ok = true;
         let mut i: usize = 0;
         let mut pin: u16 = 0;
         while i < Entries::PINS {
-            ok = ok & (entries.level[i] == ((outside[i] == 1) | timers.drives(pin)) as u8);
+            let kept = level[i] == ((outside[i] == 1) | timers.drives(pin)) as u8;
+            ok = ok & ((outside[i] <= 1) & kept);
             i += 1;
             pin += 1;
         }
@@ -70,7 +74,6 @@ impl Board {
     {
         let c = self.controller;
         let s = self.timers;
-        let outside = self.outside;
-        c.well_formed() & (s.well_formed() & (Entries::levels_ok(outside) & self.kept()))
+        c.well_formed() & (s.well_formed() & self.kept())
     }
 }

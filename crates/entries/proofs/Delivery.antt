@@ -161,6 +161,6 @@ taken-parts e i = go (levelOf (lowAt e i))
     go :
         (b : Bool) →
         cond b (withLow e (set (e .low) i (withRemote (lowAt e i)))) (withHeld e (set (e .held) i 0))
-            ≡ withHeld (withLow e (set (e .low) i (cond b (withRemote (lowAt e i)) (lowAt e i)))) (set (e .held) i (cond b (heldAt e i) 0))
+        ≡ withHeld (withLow e (set (e .low) i (cond b (withRemote (lowAt e i)) (lowAt e i)))) (set (e .held) i (cond b (heldAt e i) 0))
     go true = ap (withHeld (withLow e (set (e .low) i (withRemote (lowAt e i))))) (sym (set-getD (e .held) i 0))
     go false = ap (λ (w : List ℕ). withHeld (withLow e w) (set (e .held) i 0)) (sym (set-getD (e .low) i 0))

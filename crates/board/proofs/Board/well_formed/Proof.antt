@@ -6,7 +6,6 @@ use Rattle.board.proofs.Board.well_formed.Reads as reads
 use Rattle.board.proofs.Board.well_formed.Lts as lts
 use Rattle.board.proofs.Board.kept.Reads as kept-reads
 use Rattle.controller.proofs.Controller.well_formed.Reads as Controller-well-formed-reads
-use Rattle.entries.proofs.Entries.levels_ok.Reads as levels-ok-reads
 use Rattle.timers.proofs.Timers.well_formed.Reads as Timers-well-formed-reads
 
 -- src/wires.rt:70:9
@@ -17,10 +16,6 @@ well-formed-requires c κs = search needs
 well-formed-requires-2 : tie.Need-well-formed-requires-2
 well-formed-requires-2 c κs = search needs
 
--- src/wires.rt:70:47
-levels-ok-requires : tie.Need-levels-ok-requires
-levels-ok-requires c κs = search needs
-
 -- src/wires.rt:70:77
 kept-requires : tie.Need-kept-requires
 kept-requires c κs = search needs
@@ -28,9 +23,9 @@ kept-requires c κs = search needs
 -- src/wires.rt:64:5
 returns : tie.Need-returns
 unfolding wellFormed
-returns c = rw (c .before .before .before .well-formed .ensures, c .before .before .well-formed2 .ensures, c .before .levels-ok .ensures, c .kept .ensures)
+returns c = rw (c .before .before .well-formed .ensures, c .before .well-formed2 .ensures, c .kept .ensures)
 
 pub well-formed-spec : {M : Type 1} → statement M
 well-formed-spec =
     tie.close
-    (tie.spec well-formed-requires well-formed-requires-2 levels-ok-requires kept-requires returns)
+    (tie.spec well-formed-requires well-formed-requires-2 kept-requires returns)
