@@ -5,3 +5,4 @@ pub mod Pulse
 pub mod Apart
 pub mod Delivery
 pub mod One
+pub mod Edges

@@ -16,6 +16,13 @@ makesEdge w before after = not (maskedOf w) && not (levelOf w) && not (asserted 
 unfoldable pub heldAfter : ℕ → ℕ → ℕ → ℕ → ℕ
 heldAfter w before after held = cond (makesEdge w before after) 1 held
 
+-- the same from bytes, for the code that works on all pins at once: only inner functions cite it
+unfoldable pub takesEdges : ℕ → Bool
+takesEdges w = not (maskedOf w) && not (levelOf w)
+
+unfoldable pub heldBy : ℕ → ℕ → ℕ → ℕ → ℕ → ℕ
+heldBy edge activeLow before after held = cond (eqb edge 1 && eqb before activeLow && not (eqb after activeLow)) 1 held
+
 -- unmasked, delivery mode 000, and either edge with an edge held, or level, asserted, remote IRR 0
 unfoldable pub eligible : ℕ → ℕ → ℕ → Bool
 eligible w level held =

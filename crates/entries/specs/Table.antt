@@ -4,12 +4,13 @@ use mathlib.Core.Bool.{Bool, cond, not, _&&_}
 use mathlib.Core.List.{List}
 use lib.Dec.{leb, eqb}
 use lib.ListN.{getD, replicate, set}
+use mir.Val.{boolByte}
 use Rattle.pins.specs.Pins.{pins, first, every, bitsOf}
 use Rattle.answers.specs.declared.Answer.{Answer}
 use Rattle.answers.specs.declared.Answer.the-variants as answer
 use Rattle.entries.specs.declared.Entries.{Entries}
-use Rattle.entries.specs.Word.{vectorOf, logicalOf, levelOf, withRemote, written, shown, wordOk}
-use Rattle.entries.specs.Pin.{heldAfter, eligible, endedWord, pinOk}
+use Rattle.entries.specs.Word.{vectorOf, logicalOf, activeLowOf, levelOf, withRemote, written, shown, wordOk}
+use Rattle.entries.specs.Pin.{takesEdges, heldAfter, eligible, endedWord, pinOk}
 
 -- every low word 0x00010000, high 0, wires low
 abbrev pub resetEntries : Entries
@@ -76,6 +77,13 @@ eligiblePins e = bitsOf (eligibleAt e)
 -- the wires change to these levels, all at once: each unmasked edge pin that went from not asserted to asserted holds an edge
 unfoldable pub wired : Entries → List ℕ → Entries
 wired e l = withLevel (withHeld e (pins (λ i. heldAfter (lowAt e i) (levelAt e i) (getD l i 0) (heldAt e i)))) l
+
+-- which pins take edges, and which are active low, a byte each: only inner functions cite them
+unfoldable pub edgePins : List ℕ → List ℕ
+edgePins w = pins (λ i. boolByte (takesEdges (getD w i 0)))
+
+unfoldable pub activeLows : List ℕ → List ℕ
+activeLows w = pins (λ i. activeLowOf (getD w i 0))
 
 -- the same where only pin p's wire changes: only inner functions cite it
 unfoldable pub wiredAt : Entries → ℕ → ℕ → Entries

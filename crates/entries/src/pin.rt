@@ -1,7 +1,18 @@
 // One pin: its low word with the level of its wire and its held edge.
 ghost use mathlib.Core.Path.{_≡_};
-ghost use Rattle.entries.specs.Pin.{asserted, makesEdge, heldAfter, eligible, endedWord, takenWord, heldTaken};
+ghost use Rattle.entries.specs.Pin.{asserted, takesEdges, makesEdge, heldAfter, heldBy, eligible, endedWord, takenWord, heldTaken};
 use crate::Low;
+
+// The held edge after a change of the wire, by whether the pin takes edges and whether it is active low, 0 or 1.
+pub fn held_by(edge: u8, active_low: u8, before: u8, after: u8, held: u8) -> u8
+    ensures { λ r. ⌜ r ≡ heldBy edge «active_low» before after held ⌝ }
+{
+    if (edge == 1) & (before == active_low) & (after != active_low) {
+        1
+    } else {
+        held
+    }
+}
 
 impl Low {
     pub fn asserted(self, level: u8) -> bool
@@ -14,6 +25,13 @@ impl Low {
         ensures { λ r. ⌜ r ≡ makesEdge (self .0) before after ⌝ }
     {
         !self.is_masked() & !self.is_level() & !self.asserted(before) & self.asserted(after)
+    }
+
+    // Unmasked, and edge.
+    pub fn takes_edges(self) -> bool
+        ensures { λ r. ⌜ r ≡ takesEdges (self .0) ⌝ }
+    {
+        !self.is_masked() & !self.is_level()
     }
 
     pub fn held_after(self, before: u8, after: u8, held: u8) -> u8

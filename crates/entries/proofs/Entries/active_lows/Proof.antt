@@ -1,0 +1,91 @@
+use mathlib.Core.Path.{_≡_, refl, ap, _∙_}
+use mathlib.Core.List.{List, _++_}
+use Prim.Native.Nat.{ℕ, _-_, _≤_}
+use lib.ListN.{set, drop, getD, replicate}
+use Rattle.pins.specs.Pins.{tab}
+use Rattle.pins.proofs.Fill.{fill-more, fill-all}
+use native.Mathlib.Omega.{arith}
+use Rattle.entries.specs.Word.{activeLowOf}
+use Rattle.entries.specs.Table.{activeLows}
+use Rattle.entries.proofs.Entries.active_lows.Statement.{statement}
+use Rattle.entries.proofs.Entries.active_lows.Tie as tie
+use Rattle.entries.proofs.Entries.active_lows.Reads as reads
+use Rattle.entries.proofs.Entries.active_lows.Lts as lts
+use Rattle.entries.proofs.Low.active_low.Reads as active-low-reads
+
+abbrev at : List ℕ → ℕ → ℕ
+at w i = activeLowOf (getD w i 0)
+
+abbrev zeros : List ℕ
+zeros = replicate 24 0
+
+abbrev Inv-loop : tie.InvT-loop
+Inv-loop low lows₀ i₀ lows i = (i ≤ 24) × (lows ≡ tab (at low) 0 i ++ drop i zeros)
+
+abbrev μ-loop : tie.MeasureT-loop
+μ-loop low lows₀ i₀ lows i = 24 - i
+
+-- src/table.rt:125:9
+loop-holds : tie.Need-loop-holds Inv-loop μ-loop
+unfolding tab
+loop-holds c = (omega arith, refl)
+
+-- src/table.rt:126:27
+mul-t7 : tie.Need-mul-t7 Inv-loop μ-loop
+mul-t7 c = omega arith
+
+-- src/table.rt:126:27
+array-read-t10 : tie.Need-array-read-t10 Inv-loop μ-loop
+array-read-t10 c = omega arith
+
+-- src/table.rt:126:23
+active-low-requires : tie.Need-active-low-requires Inv-loop μ-loop
+active-low-requires c κs = tt
+
+-- src/table.rt:126:13
+array-write-lows : tie.Need-array-write-lows Inv-loop μ-loop
+array-write-lows c = omega arith
+
+-- src/table.rt:127:13
+add-i : tie.Need-add-i Inv-loop μ-loop
+add-i c = omega arith
+
+-- src/table.rt:125:9
+loop-less : tie.Need-loop-less Inv-loop μ-loop
+loop-less c = omega arith
+
+-- src/table.rt:125:9
+loop-again : tie.Need-loop-again Inv-loop μ-loop
+loop-again c =
+    let a = c .before .before in
+    let f = at (a .before .args .t1) in (
+      omega arith,
+      ap (λ (l : List ℕ). set l (a .loop .i) (c .active-low .result)) (a .loop .inv .1)
+          ∙ ap (set (tab f 0 (a .loop .i) ++ drop (a .loop .i) zeros) (a .loop .i)) (c .active-low .ensures)
+          ∙ fill-more f (a .loop .i) zeros (omega arith),
+    )
+
+-- src/table.rt:120:5
+returns : tie.Need-returns Inv-loop μ-loop
+unfolding activeLows
+returns c =
+    let a = c .before in
+    let f = at (a .before .args .t1) in
+    let full : a .loop .i ≡ 24 = omega arith in
+    a .loop .inv .1 ∙ ap (λ (i : ℕ). tab f 0 i ++ drop i zeros) full ∙ fill-all f 24 zeros refl
+
+pub active-lows-spec : {M : Type 1} → statement M
+active-lows-spec =
+    tie.close
+    (tie.spec
+    Inv-loop
+    μ-loop
+    loop-holds
+    mul-t7
+    array-read-t10
+    active-low-requires
+    array-write-lows
+    add-i
+    loop-less
+    loop-again
+    returns)
