@@ -17,7 +17,7 @@ use Rattle.entries.specs.declared.Entries.{Entries}
 use Rattle.entries.specs.Pin.{heldAfter}
 use Rattle.entries.specs.Table.{lowAt, levelAt, heldAt, withHeld, withLevel, wired, wiredAt, pulsed}
 use Rattle.entries.proofs.Pulse.{wired-one, wired-same}
-use Rattle.entries.proofs.One.{pulsed-one}
+use Rattle.entries.proofs.One.{one-is, pulsed-one}
 use Rattle.controller.specs.declared.Controller.{Controller}
 use Rattle.controller.specs.State.{withEntries}
 use Rattle.controller.specs.Steps.{rewired, rewiredAt}
@@ -115,7 +115,7 @@ module _ (b : Board) (z : Formed b) (m : ℕ) (l : m < 3) (on : isEnabled (b .ti
   same = ap₂ (λ (h v : List ℕ). withLevel (withHeld e h) v) (set-getD (e .held) p 0) (set-getD (e .level) p 0)
 
   fire-strikes : fire m b .controller ≡ withEntries c (strike s m e)
-  unfolding strike struckHeld struckLevel wiredAt
+  unfolding strike struckHeld struckLevel
   fire-strikes =
       by-cases b z m l (λ x. x ≡ withEntries c (strike s m e))
       (λ h.
@@ -125,7 +125,7 @@ module _ (b : Board) (z : Formed b) (m : ℕ) (l : m < 3) (on : isEnabled (b .ti
       (λ h. go (raisesOf s m) refl h)
     where
       go : (x : Bool) → raisesOf s m ≡ x → pulsesOf s m ≡ false → rewired c (wiresOf o (firedOf s m)) ≡ withEntries c (strike s m e)
-      go true r h = ap (λ (v : List ℕ). rewired c v) (up r) ∙ ap (withEntries c) (wired-one e (z .sized) p pin 1 ∙ rw (h, r))
+      go true r h = ap (λ (v : List ℕ). rewired c v) (up r) ∙ ap (withEntries c) (wired-one e (z .sized) p pin 1 ∙ one-is e p 1 ∙ rw (h, r))
       go false r h = ap (λ (v : List ℕ). rewired c v) (flat r) ∙ ap (withEntries c) (wired-same e (z .sized) ∙ rw (h, r) (sym same))
 
 -- it is told by the pulses, the raising and the route, which stay

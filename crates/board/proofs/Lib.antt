@@ -12,3 +12,4 @@ pub mod Runs
 pub mod Held
 pub mod Demands
 pub mod Leaves
+pub mod Served

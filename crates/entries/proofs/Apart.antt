@@ -1,8 +1,10 @@
 -- The test of the entries, one kind of part after the other, as the code makes it.
-use mathlib.Core.Path.{_≡_, ap, _∙_}
+use mathlib.Core.Path.{_≡_, refl, ap, _∙_}
 use mathlib.Core.Bool.{Bool, not, _&&_}
 use Prim.Native.Nat.{ℕ}
+use mathlib.Core.List.{List}
 use lib.Dec.{eqb, leb}
+use lib.ListN.{getD}
 use Rattle.pins.specs.Pins.{every}
 use Rattle.pins.proofs.Bools.{and-assoc}
 use Rattle.pins.proofs.Every.{every-and}
@@ -10,6 +12,11 @@ use Rattle.entries.specs.declared.Entries.{Entries}
 use Rattle.entries.specs.Word.{levelOf, wordOk}
 use Rattle.entries.specs.Pin.{pinOk}
 use Rattle.entries.specs.Table.{lowAt, levelAt, heldAt, wordsOk, edgesOk, entriesOk, levelsOk}
+
+-- the levels of a list, one by one
+pub levels-each : (l : List ℕ) → levelsOk l ≡ every (λ i. leb (getD l i 0) 1)
+unfolding levelsOk
+levels-each l = refl
 
 pub ok-apart : (e : Entries) → entriesOk e ≡ wordsOk (e .low) && (edgesOk (e .low) (e .held) && (levelsOk (e .level) && levelsOk (e .held)))
 unfolding entriesOk pinOk wordsOk edgesOk levelsOk

@@ -1,7 +1,7 @@
 -- `nataqvoju_wire` meets its contract: a walk of its MIR, by hand. `formed` is called on the lent board, which stays as it stands (`Tested.antt`'s `tests`). Where it holds, the borrow is opened, the whole struct is copied out of it, `wire` is called on the copy, and the struct that it returns is stored back; the borrow is closed there, and the answer is returned. Where it fails, nothing is opened, and the answer is that of `refused`.
 -- All that the proof knows of the three is that they meet their contracts. No line names a field of the state: its laws come from the module that `rattle check` makes of it.
 -- Assumes nothing.
-use mathlib.Core.Path.{_≡_, refl, ap}
+use mathlib.Core.Path.{_≡_, refl, ap, sym, _∙_}
 use Prim.Native.Nat.{ℕ, _<_, _^_}
 use mathlib.Core.Bool.{true}
 use mathlib.Core.List.{[], _∷_, List}
@@ -53,6 +53,7 @@ use Rattle.answers.proofs.Numbers as R
 use Rattle.answers.proofs.Numbers.Laws as R′
 use Rattle.monitor.proofs.Out as O
 use Rattle.monitor.proofs.Out.Laws as O′
+use Rattle.board.proofs.Served.{served-wire}
 use Rattle.monitor.proofs.Served.{holds, gives, refuses}
 use Rattle.monitor.proofs.Tested.{mach, Test, No, takes, leaves, parts, tests, turns}
 use Rattle.monitor.proofs.formed.Symbol as test-def
@@ -79,8 +80,7 @@ Step 𝓤 H A mem run = tripleOf 𝓤 H A step.signature (step.spec 𝓤 H A mem
 
 -- what `wire` ensures is what the call does
 serves : (h : Board) (x1 x2 : ℕ) (r : Out) → T (wellFormed h) → (wellFormed h ≡ true → r ≡ outOf (wiringOf h x1 x2)) → r ≡ outOf (servedOf h (call.Wire x1 x2))
-unfolding servedOf
-serves h x1 x2 r w e = e (holds (wellFormed h) w)
+serves h x1 x2 r w e = e (holds (wellFormed h) w) ∙ ap outOf (sym (served-wire h x1 x2))
 
 module _ {M : Type 1} (𝓤 : URA M) (H : Heap 𝓤) (A : Atoms 𝓤) (W : Given 𝓤 H A) (at-mem : Memory → SProp 𝓤) (run : Routine → Fun 𝓤) (κ : Lft) (q : Share) (b o : ℕ) (γ : GName) (h : Board) (x1 : ℕ) (x2 : ℕ) (x1-fits : x1 < 2 ^ 64) (x2-fits : x2 < 2 ^ 64) where
   abbrev x : RefT Board × (ℕ × (ℕ × Unit {0}))

@@ -1,14 +1,14 @@
-use mathlib.Core.Path.{_≡_, refl, ap, ap₂, _∙_}
+use mathlib.Core.Path.{_≡_, refl, sym, ap, ap₂, _∙_}
 use mathlib.Core.Bool.{Bool, _&&_, _||_}
 use mathlib.Core.List.{List}
 use lib.Dec.{eqb, leb}
 use lib.ListN.{getD}
 use Prim.Native.Nat.{ℕ, _-_, _≤_}
 use mir.Val.{boolByte}
-use Rattle.pins.specs.Pins.{allFrom}
+use Rattle.pins.specs.Pins.{allFrom, every}
 use Rattle.pins.proofs.Scan.{all-more}
 use Rattle.pins.proofs.Every.{every-and}
-use Rattle.entries.specs.Table.{levelsOk}
+use Rattle.entries.proofs.Apart.{levels-each}
 use Rattle.timers.specs.declared.Timers.{Timers}
 use Rattle.timers.specs.Tick.{drivesOf}
 use Rattle.board.specs.Wires.{highAt}
@@ -83,7 +83,6 @@ loop-again c =
 
 -- src/wires.rt:52:5
 returns : tie.Need-returns Inv-loop μ-loop
-unfolding levelsOk
 returns c =
     let a = c .before in
     let b = a .before .before .before .before .before .before .args .self in
@@ -92,6 +91,7 @@ returns c =
     a .loop .inv .1
     ∙ ap (allFrom (keptIn l (b .timers) (b .outside)) 0) full
     ∙ every-and (λ p. leb (getD (b .outside) p 0) 1) (λ p. eqb (getD l p 0) (boolByte (highAt (b .outside) (b .timers) p)))
+    ∙ ap (λ (x : Bool). x && every (λ p. eqb (getD l p 0) (boolByte (highAt (b .outside) (b .timers) p)))) (sym (levels-each (b .outside)))
 
 pub kept-spec : {M : Type 1} → statement M
 kept-spec =

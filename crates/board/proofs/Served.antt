@@ -1,0 +1,46 @@
+-- The promise of a call in its two cases: on a well-formed board it is what the call does, on another the refusal 5.
+use mathlib.Core.Path.{_≡_, refl}
+use mathlib.Core.Bool.{true, false}
+use Prim.Native.Nat.{ℕ}
+use Rattle.answers.specs.declared.Refusal.the-variants as refusal
+use Rattle.board.specs.declared.Board.{Board}
+use Rattle.board.specs.declared.Call.{Call}
+use Rattle.board.specs.declared.Call.the-variants as call
+use Rattle.board.specs.State.{refused}
+use Rattle.board.specs.Formed.{wellFormed}
+use Rattle.board.specs.Step.{readingOf, writingOf, wiringOf, endingOf, advancingOf, deliveringOnBoard, servedOf, turnOf}
+
+module _ (b : Board) where
+  pub turn-served : (c : Call) → wellFormed b ≡ true → turnOf b c ≡ servedOf b c
+  unfolding turnOf
+  turn-served c e = rw e
+
+  pub turn-refused : (c : Call) → wellFormed b ≡ false → turnOf b c ≡ refused b refusal.State
+  unfolding turnOf
+  turn-refused c e = rw e
+
+  -- what each call does
+
+  pub served-read : (window width offset : ℕ) → servedOf b (call.Read window width offset) ≡ readingOf b window width offset
+  unfolding servedOf
+  served-read window width offset = refl
+
+  pub served-write : (window width offset value : ℕ) → servedOf b (call.Write window width offset value) ≡ writingOf b window width offset value
+  unfolding servedOf
+  served-write window width offset value = refl
+
+  pub served-wire : (pin level : ℕ) → servedOf b (call.Wire pin level) ≡ wiringOf b pin level
+  unfolding servedOf
+  served-wire pin level = refl
+
+  pub served-end : (vector : ℕ) → servedOf b (call.End vector) ≡ endingOf b vector
+  unfolding servedOf
+  served-end vector = refl
+
+  pub served-advance : (n : ℕ) → servedOf b (call.Advance n) ≡ advancingOf b n
+  unfolding servedOf
+  served-advance n = refl
+
+  pub served-deliver : servedOf b call.Deliver ≡ deliveringOnBoard b
+  unfolding servedOf
+  served-deliver = refl
