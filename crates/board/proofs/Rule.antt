@@ -12,11 +12,21 @@ use Rattle.pins.proofs.Fill.{getD-tab, length-tab}
 use Rattle.entries.specs.Table.{levelsOk}
 use Rattle.entries.proofs.Formed.{levels-of}
 use Rattle.timers.specs.declared.Timers.{Timers}
-use Rattle.timers.specs.Tick.{drivesOf}
+use Rattle.timers.specs.Tick.{drivesOf, drivenOf}
+use Rattle.timers.proofs.Wires.{drives-pin}
 use Rattle.board.specs.Wires.{highAt, wiresOf}
 
 abbrev rule : List ℕ → Timers → ℕ → ℕ
 rule o s p = boolByte (highAt o s p)
+
+-- a wire by the pins that the timers drive, as the code finds it
+pub high-by :
+    (o : List ℕ) (s : Timers) (a b c : ℕ) → a ≡ drivenOf s 0 → b ≡ drivenOf s 1 → c ≡ drivenOf s 2 → (p : ℕ) → p < 24 →
+    (eqb (getD o p 0) 1 || (eqb a p || (eqb b p || eqb c p))) ≡ highAt o s p
+unfolding highAt
+high-by o s a b c e f g p h =
+    (λ i. eqb (getD o p 0) 1 || (eqb (e i) p || (eqb (f i) p || eqb (g i) p)))
+    ∙ ap (λ (x : Bool). eqb (getD o p 0) 1 || x) (sym (drives-pin s p h))
 
 module _ (o : List ℕ) (s : Timers) where
   pub wires-long : length (wiresOf o s) ≡ 24

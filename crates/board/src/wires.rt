@@ -1,6 +1,7 @@
 // The wire rule, and the test of a board.
 ghost use mathlib.Core.Path.{_≡_};
-ghost use mathlib.Core.Bool.{_&&_};
+ghost use mathlib.Core.Bool.{_&&_, _||_};
+ghost use lib.Dec.{eqb};
 ghost use Rattle.pins.specs.Pins.{every};
 ghost use Rattle.entries.specs.Table.{levelsOk};
 ghost use Rattle.board.specs.State.{resetBoard};
@@ -11,15 +12,26 @@ use controller::Controller;
 use entries::Entries;
 use timers::Timers;
 
-// The wire rule at every pin. The pin is counted at the width of a route, so that the loop is worked out in vectors.
+// The pin is one of the three.
+fn reached(a: u16, b: u16, c: u16, pin: u16) -> bool
+    ensures { λ r. ⌜ r ≡ eqb a pin || (eqb b pin || eqb c pin) ⌝ }
+{
+    (a == pin) | ((b == pin) | (c == pin))
+}
+
+// The wire rule at every pin. The pins that the timers drive are found once, and the pin is counted at the width of a route, so that
+// the loop is worked out in vectors.
 pub fn wires(outside: [u8; 24], timers: Timers) -> [u8; 24]
     ensures { λ r. ⌜ r ≡ wiresOf outside timers ⌝ }
 {
+    let a = timers.driven(0);
+    let b = timers.driven(1);
+    let c = timers.driven(2);
     let mut levels: [u8; 24] = [0; 24];
     let mut i: usize = 0;
     let mut pin: u16 = 0;
     while i < Entries::PINS {
-        levels[i] = ((outside[i] == 1) | timers.drives(pin)) as u8;
+        levels[i] = ((outside[i] == 1) | reached(a, b, c, pin)) as u8;
         i += 1;
         pin += 1;
     }
@@ -57,11 +69,14 @@ impl Board {
         let level = entries.level;
         let timers = self.timers;
         let outside = self.outside;
+        let p = timers.driven(0);
+        let q = timers.driven(1);
+        let r = timers.driven(2);
         let mut ok = true;
         let mut i: usize = 0;
         let mut pin: u16 = 0;
         while i < Entries::PINS {
-            let kept = level[i] == ((outside[i] == 1) | timers.drives(pin)) as u8;
+            let kept = level[i] == ((outside[i] == 1) | reached(p, q, r, pin)) as u8;
             ok = ok & ((outside[i] <= 1) & kept);
             i += 1;
             pin += 1;

@@ -5,7 +5,7 @@ use mathlib.Core.Bool.{Bool, true, false, cond, not, _&&_, _||_}
 use lib.Dec.{T, eqb}
 use Rattle.timer.specs.declared.Timer.{Timer}
 use Rattle.timer.specs.State.{flag}
-use Rattle.timer.specs.Tick.{firing, pulsing, raising, driving}
+use Rattle.timer.specs.Tick.{firing, pulsing, raising, driving, holding}
 
 -- edge type, or with its status set: no firing moves the wire by the timer's status
 unfoldable pub risen : Timer → Bool
@@ -41,6 +41,15 @@ module _ (t : Timer) where
       go false i s e = refl
 
   module _ (p : ℕ) where
+    pub driving-pin : driving t p ≡ (holding t && eqb (t .route) p)
+    unfolding driving holding
+    driving-pin = go (flag (t .«level_type»)) (flag (t .interrupt)) (flag (t .status)) (eqb (t .route) p)
+      where
+        go : (l i s r : Bool) → (l && (i && (s && r))) ≡ ((l && (i && s)) && r)
+        go true true s r = refl
+        go true false s r = refl
+        go false i s r = refl
+
     pub driving-same : risen t ≡ true → driving (firing t) p ≡ driving t p
     unfolding firing risen driving
     driving-same = go (flag (t .«level_type»)) (flag (t .interrupt)) (t .status) (eqb (t .route) p)

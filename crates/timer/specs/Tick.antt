@@ -28,3 +28,7 @@ raising t = flag (t .«level_type») && flag (t .interrupt)
 -- it is routed to the pin and has level type, interrupt enable and status
 unfoldable pub driving : Timer → ℕ → Bool
 driving t pin = flag (t .«level_type») && (flag (t .interrupt) && (flag (t .status) && eqb (t .route) pin))
+
+-- the same of whatever pin it is routed to: only inner functions cite it
+unfoldable pub holding : Timer → Bool
+holding t = flag (t .«level_type») && (flag (t .interrupt) && flag (t .status))

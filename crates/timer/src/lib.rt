@@ -7,7 +7,7 @@ ghost use mir.Val.{boolByte};
 ghost use Rattle.timer.specs.State.{flag, width, reduced, blank, resetTimer};
 ghost use Rattle.timer.specs.Formed.{flagsFit, narrowFits, timerFormed};
 ghost use Rattle.timer.specs.Registers.{bit, configurationOf, configuredOf, comparedOf, clearedOf};
-ghost use Rattle.timer.specs.Tick.{meets, firing, pulsing, raising, driving};
+ghost use Rattle.timer.specs.Tick.{meets, firing, pulsing, raising, driving, holding};
 ghost use Rattle.timer.specs.Alone.{runOf};
 ghost use Rattle.timer.specs.Closed.{times, stride, firedTo, Ahead};
 
@@ -228,6 +228,13 @@ impl Timer {
     {
         (self.level_type == 1)
             & ((self.interrupt == 1) & ((self.status == 1) & (self.route == pin)))
+    }
+
+    // It holds the wire of its pin high, in a block that is enabled.
+    pub fn holds(self) -> bool
+        ensures { λ r. ⌜ r ≡ holding self ⌝ }
+    {
+        (self.level_type == 1) & ((self.interrupt == 1) & (self.status == 1))
     }
 
     // ---- many ticks at once

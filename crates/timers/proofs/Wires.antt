@@ -1,17 +1,18 @@
 -- The timers' part of the wire rule, and what counting and firing do to it.
 use Prim.Native.Nat.{ℕ, zero, suc, _<_}
 use mathlib.Core.Path.{_≡_, refl, sym, ap, ap₂, _∙_}
-use mathlib.Core.Bool.{Bool, true, false, _&&_, _||_}
+use mathlib.Core.Bool.{Bool, true, false, cond, _&&_, _||_}
 use native.Mathlib.Decide.{ℕ-discrete}
 use native.Mathlib.Omega.{arith}
 use lib.Dec.{eqb, lit<}
+use borrow.Author.Tests.{ne-eqb}
 use Rattle.timer.specs.declared.Timer.{Timer}
 use Rattle.timer.specs.State.{flag}
-use Rattle.timer.specs.Tick.{meets, firing, pulsing, raising, driving}
-use Rattle.timer.proofs.Wire.{risen, firing-route, firing-pulsing, firing-raising, firing-risen, pulsing-risen, driving-same, driving-fired, driving-more}
+use Rattle.timer.specs.Tick.{meets, firing, pulsing, raising, driving, holding}
+use Rattle.timer.proofs.Wire.{risen, firing-route, firing-pulsing, firing-raising, firing-risen, pulsing-risen, driving-pin, driving-same, driving-fired, driving-more}
 use Rattle.timers.specs.declared.Timers.{Timers}
 use Rattle.timers.specs.State.{at, isEnabled, resetTimers}
-use Rattle.timers.specs.Tick.{countedOf, matchesOf, firedOf, drivesOf, pulsesOf, raisesOf, routeOf}
+use Rattle.timers.specs.Tick.{countedOf, matchesOf, firedOf, drivesOf, drivenOf, pulsesOf, raisesOf, routeOf}
 use Rattle.timers.proofs.Each.{fired-counter, fired-enabled, fired-same, fired-other}
 
 -- timer m is edge type, or has its status set: its firing moves no wire but by a pulse
@@ -46,6 +47,28 @@ module _ (s s' : Timers) (p : ℕ) (e : s' .enabled ≡ s .enabled) where
       (or-more (driving (at s 0) p) (driving (at s' 0) p) (driving (at s 1) p || driving (at s 2) p) (driving (at s' 1) p || driving (at s' 2) p) (f 0 (lit< tt))
       (or-more (driving (at s 1) p) (driving (at s' 1) p) (driving (at s 2) p) (driving (at s' 2) p) (f 1 (lit< tt)) (f 2 (lit< tt))))
       q
+
+-- of a pin below 24: it is one that a timer drives
+pub drives-pin : (s : Timers) (p : ℕ) → p < 24 → drivesOf s p ≡ (eqb (drivenOf s 0) p || (eqb (drivenOf s 1) p || eqb (drivenOf s 2) p))
+unfolding drivesOf drivenOf
+drives-pin s p h = go (isEnabled s)
+  where
+    none : false ≡ eqb 24 p
+    none = sym (ne-eqb 24 p (λ e. omega arith))
+
+    one : (j : ℕ) → driving (at s j) p ≡ eqb (cond (holding (at s j)) (at s j .route) 24) p
+    one j = driving-pin (at s j) p ∙ at-pin (holding (at s j))
+      where
+        at-pin : (x : Bool) → (x && eqb (at s j .route) p) ≡ eqb (cond x (at s j .route) 24) p
+        at-pin true = refl
+        at-pin false = none
+
+    go :
+        (x : Bool) →
+        (x && (driving (at s 0) p || (driving (at s 1) p || driving (at s 2) p)))
+        ≡ (eqb (cond (x && holding (at s 0)) (at s 0 .route) 24) p || (eqb (cond (x && holding (at s 1)) (at s 1 .route) 24) p || eqb (cond (x && holding (at s 2)) (at s 2 .route) 24) p))
+    go true = λ i. one 0 i || (one 1 i || one 2 i)
+    go false = λ i. none i || (none i || none i)
 
 -- ---- counting
 

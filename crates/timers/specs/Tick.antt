@@ -2,7 +2,7 @@
 use Prim.Native.Nat.{ℕ, zero, suc, _+_, _%_, _^_}
 use mathlib.Core.Bool.{Bool, cond, _&&_, _||_}
 use lib.Dec.{eqb}
-use Rattle.timer.specs.Tick.{meets, firing, pulsing, raising, driving}
+use Rattle.timer.specs.Tick.{meets, firing, pulsing, raising, driving, holding}
 use Rattle.timers.specs.declared.Timers.{Timers}
 use Rattle.timers.specs.declared.Ran.{Ran}
 use Rattle.timers.specs.State.{three, at, isEnabled, withCounter, withTimer}
@@ -66,6 +66,10 @@ ranOf s n = ran (ticks n s) (λ m. firings m n s) (λ m. first m n s)
 -- a pin's wire is high if some timer routed there has level type, interrupt enable and status, with the block enabled
 unfoldable pub drivesOf : Timers → ℕ → Bool
 drivesOf s pin = isEnabled s && (driving (at s 0) pin || (driving (at s 1) pin || driving (at s 2) pin))
+
+-- the pin that timer m drives, or 24: only inner functions cite it
+unfoldable pub drivenOf : Timers → ℕ → ℕ
+drivenOf s m = cond (isEnabled s && holding (at s m)) (at s m .route) 24
 
 -- a firing edge timer with its interrupt enabled raises the wire of its pin and drops it again
 unfoldable pub pulsesOf : Timers → ℕ → Bool

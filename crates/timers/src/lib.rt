@@ -7,7 +7,7 @@ ghost use Rattle.timer.specs.Registers.{bit, clearedOf};
 ghost use Rattle.timers.specs.State.{at, isEnabled, withCounter, withEnabled, withTimer, withTimers, resetTimers};
 ghost use Rattle.timers.specs.Formed.{wellFormed};
 ghost use Rattle.timers.specs.Registers.{aligned, clearedBy, statusOf, timerRegister, registerOf, timerPut, timerWritten, writtenOf};
-ghost use Rattle.timers.specs.Tick.{countedOf, matchesOf, firedOf, drivesOf, pulsesOf, raisesOf, routeOf, ranOf};
+ghost use Rattle.timers.specs.Tick.{countedOf, matchesOf, firedOf, drivesOf, drivenOf, pulsesOf, raisesOf, routeOf, ranOf};
 ghost use Rattle.timers.specs.Call.{refused, readingOf, writingOf, readOf, writeOf, advanceOf};
 use answers::Answer;
 use answers::Refusal;
@@ -149,6 +149,18 @@ impl Timers {
         let t1 = t[1];
         let t2 = t[2];
         (self.enabled == 1) & (t0.drives(pin) | (t1.drives(pin) | t2.drives(pin)))
+    }
+
+    // The pin whose wire timer m holds high, or 24.
+    pub fn driven(self, m: usize) -> u16
+        ensures { λ r. ⌜ r ≡ drivenOf self m ⌝ }
+    {
+        let t = self.at(m);
+        if (self.enabled == 1) & t.holds() {
+            t.route
+        } else {
+            24
+        }
     }
 
     // Timer m's firing is a pulse: edge type with its interrupt enabled.
