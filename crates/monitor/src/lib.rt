@@ -15,7 +15,7 @@ pub struct Out {
     pub numbers: Numbers,
 }
 
-// Whether the lent board is well formed: by `&`, so that a refused call stores nothing.
+// Whether the lent board is well formed, tested where it lies: by value it would be copied first.
 fn formed(b: &Board) -> bool
     ensures { λ r. ⌜ r ≡ wellFormed (now (b .entry)) ⌝ }
 {

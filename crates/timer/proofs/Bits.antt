@@ -1,11 +1,11 @@
 -- A configuration put together of its bits.
-use Prim.Native.Nat.{ℕ, _+_, _*_, _%_, _^_, _<_}
-use mathlib.Core.Path.{_≡_, ap, _∙_}
+use Prim.Native.Nat.{ℕ, _+_, _-_, _*_, _%_, _^_, _<_, _≤_}
+use mathlib.Core.Path.{_≡_, sym, ap, _∙_}
 use mathlib.Core.Bool.{Bool, true, false}
-use native.Mathlib.Nat.{mod-eq-of-lt}
+use native.Mathlib.Nat.{mod-eq-of-lt, mul-assoc, mul-mod-left}
 use native.Mathlib.Omega.{arith}
 use lib.Bits.{bitOr, or-shifted, or-shifted-r}
-use lib.Pow.{shl-exact}
+use lib.Pow.{shl-exact, pow-add}
 use lib.Dec.{lit<}
 use mir.Val.{boolByte}
 use Rattle.timer.specs.declared.Timer.{Timer}
@@ -19,6 +19,20 @@ byte-lt false = lit< tt
 -- a bit in its place
 pub placed-exact : (b : Bool) (k : ℕ) → k < 64 → boolByte b * 2 ^ k % 2 ^ 64 ≡ boolByte b * 2 ^ k
 placed-exact b k l = shl-exact 1 k 64 (byte-lt b) (omega arith)
+
+-- as the code places it
+pub placed-is : {r : ℕ} (k f : ℕ) → k < 64 → r ≡ placed k f % 2 ^ 64 → r ≡ placed k f
+placed-is k f l e = e ∙ placed-exact (flag f) k l
+
+pub placed-out : (x k : ℕ) → 64 ≤ k → x * 2 ^ k % 2 ^ 64 ≡ 0
+placed-out x k l =
+    ap (λ (j : ℕ). x * 2 ^ j % 2 ^ 64) (sym above)
+    ∙ ap (λ (y : ℕ). x * y % 2 ^ 64) (pow-add 2 (k - 64) 64)
+    ∙ ap (λ (y : ℕ). y % 2 ^ 64) (sym (mul-assoc x (2 ^ (k - 64)) (2 ^ 64)))
+    ∙ mul-mod-left (x * 2 ^ (k - 64)) (2 ^ 64)
+  where
+    above : k - 64 + 64 ≡ k
+    above = omega arith
 
 abbrev parts : ℕ → ℕ → ℕ → ℕ → ℕ → ℕ → ℕ
 parts r n s p i l = bitOr (bitOr (r * 512 % 2 ^ 64) (bitOr n (bitOr s (bitOr (bitOr p (bitOr i l)) 48)))) 0x00FFFFFF00000000

@@ -3,10 +3,9 @@ ghost use mathlib.Core.Path.{_≡_};
 ghost use Prim.Native.Nat.{_+_, _-_, _*_, _/_, _%_, _^_, _<_};
 ghost use mathlib.Core.Bool.{cond};
 ghost use lib.Dec.{ltb};
-ghost use mir.Val.{boolByte};
-ghost use Rattle.timer.specs.State.{flag, width, reduced, blank, resetTimer};
+ghost use Rattle.timer.specs.State.{width, reduced, blank, resetTimer};
 ghost use Rattle.timer.specs.Formed.{flagsFit, narrowFits, timerFormed};
-ghost use Rattle.timer.specs.Registers.{bit, configurationOf, configuredOf, comparedOf, clearedOf};
+ghost use Rattle.timer.specs.Registers.{bit, placed, configurationOf, configuredOf, comparedOf, clearedOf};
 ghost use Rattle.timer.specs.Tick.{meets, firing, pulsing, raising, driving, holding};
 ghost use Rattle.timer.specs.Alone.{runOf};
 ghost use Rattle.timer.specs.Closed.{times, stride, firedTo, Ahead};
@@ -41,19 +40,23 @@ fn reduced(narrow: bool, x: u64) -> u64
     if narrow { x % 4294967296 } else { x }
 }
 
-// Bit k of v.
+// Bit k of v: a number of 64 bits has none above 63.
 pub fn bit(v: u64, k: u32) -> u8
-    requires { ⌜ k < 64 ⌝ }
     ensures { λ r. ⌜ r ≡ bit k v ⌝ }
 {
+    if 64 <= k {
+        return 0;
+    }
     ((v >> k) & 1) as u8
 }
 
-// Bit k by itself, where the flag is set.
+// Bit k by itself, where the flag is set; modulo 2^64, which takes a bit above 63 away.
 pub fn placed(f: u8, k: u32) -> u64
-    requires { ⌜ k < 64 ⌝ }
-    ensures { λ r. ⌜ r ≡ boolByte (flag f) * 2 ^ k ⌝ }
+    ensures { λ r. ⌜ r ≡ placed k f % 2 ^ 64 ⌝ }
 {
+    if 64 <= k {
+        return 0;
+    }
     ((f == 1) as u64) << k
 }
 

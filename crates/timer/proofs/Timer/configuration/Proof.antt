@@ -1,6 +1,7 @@
+use lib.Dec.{lit<}
 use Prim.Native.Nat.{_^_, _<_}
 use native.Mathlib.Omega.{arith}
-use Rattle.timer.proofs.Bits.{configuration-code}
+use Rattle.timer.proofs.Bits.{placed-is, configuration-code}
 use borrow.Author.Needs.{needs}
 use Rattle.timer.proofs.Timer.configuration.Statement.{statement}
 use Rattle.timer.proofs.Timer.configuration.Tie as tie
@@ -31,7 +32,7 @@ returns c = let a = c .before in
     let s = a .before .before .before .before .before in
     let k : s .args .self .route < 2 ^ 16 = omega arith in
     configuration-code (s .args .self) (a .before .placed4 .result) (a .placed5 .result) (a .before .before .before .before .placed .result) (a .before .before .before .placed2 .result) (a .before .before .placed3 .result) k
-    (a .before .placed4 .ensures) (a .placed5 .ensures) (a .before .before .before .before .placed .ensures) (a .before .before .before .placed2 .ensures) (a .before .before .placed3 .ensures)
+    (placed-is 8 (s .args .self .narrow) (lit< tt) (a .before .placed4 .ensures)) (placed-is 6 (s .args .self .«set_comparator») (lit< tt) (a .placed5 .ensures)) (placed-is 3 (s .args .self .periodic) (lit< tt) (a .before .before .before .before .placed .ensures)) (placed-is 2 (s .args .self .interrupt) (lit< tt) (a .before .before .before .placed2 .ensures)) (placed-is 1 (s .args .self .«level_type») (lit< tt) (a .before .before .placed3 .ensures))
 
 pub configuration-spec : {M : Type 1} → statement M
 configuration-spec =

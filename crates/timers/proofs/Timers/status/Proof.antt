@@ -1,3 +1,6 @@
+use Rattle.timers.specs.State.{at}
+use lib.Dec.{lit<}
+use Rattle.timer.proofs.Bits.{placed-is}
 use Rattle.timers.proofs.Access.{status-code}
 use borrow.Author.Needs.{needs}
 use Rattle.timers.proofs.Timers.status.Statement.{statement}
@@ -25,7 +28,14 @@ placed-requires-3 : tie.Need-placed-requires-3
 placed-requires-3 c κs = search needs
 
 returns : tie.Need-returns
-returns c = status-code _ _ _ _ (c .before .before .placed .ensures) (c .before .placed2 .ensures) (c .placed3 .ensures)
+returns c =
+    let c1 = c .before in
+    let c2 = c1 .before in
+    let s = c2 .before .before .before .before .before .args .self in
+    status-code s _ _ _
+    (placed-is 2 (at s 2 .status) (lit< tt) (c2 .placed .ensures))
+    (placed-is 1 (at s 1 .status) (lit< tt) (c1 .placed2 .ensures))
+    (placed-is 0 (at s 0 .status) (lit< tt) (c .placed3 .ensures))
 
 pub status-spec : {M : Type 1} → statement M
 status-spec =
