@@ -7,7 +7,7 @@ use board::Board;
 ghost use mathlib.Core.Path.{_≡_};
 ghost use Prim.Native.Nat.{_≤_};
 ghost use lib.ListN.{length};
-ghost use Rattle.text.specs.Put.{over};
+ghost use Rattle.lines.specs.Put.{over};
 ghost use Rattle.replay.specs.Output.{outputOf};
 
 // 64 bytes for each of the 21,845 records that a log of 65,536 bytes can hold, and for the last line: the bound that is proved.
@@ -25,7 +25,7 @@ fn output(log: &[u8], out: &mut [u8]) -> usize
     ensures { λ r. ⌜ (r ≡ length (outputOf (now (log .entry)))) × (now (out .exit) ≡ over (outputOf (now (log .entry))) (now (out .entry))) ⌝ }
 {
     if 65536 < log.len() {
-        return text::put_bytes(b"too long\n", out, 0);
+        return lines::too_long(out, 0);
     }
     let board = Board::reset();
     let r = reader::replay(log, board, out);

@@ -1,3 +1,5 @@
+use Rattle.lines.specs.Line.{tooLong}
+use Rattle.lines.proofs.Puts.{put-at}
 use native.Mathlib.Omega.{arith}
 use Rattle.replay.proofs.Outputs.{refused, whole}
 use borrow.Author.Needs.{needs}
@@ -7,19 +9,21 @@ use Rattle.replay.proofs.output.Reads as reads
 use Rattle.replay.proofs.output.Lts as lts
 use Rattle.board.proofs.Board.reset.Reads as reset-reads
 use Rattle.reader.proofs.replay.Reads as replay-reads
-use Rattle.text.proofs.put_bytes.Reads as put-bytes-reads
+use Rattle.lines.proofs.too_long.Reads as too-long-reads
 
-slice-aggregate-put-bytes : tie.Need-slice-aggregate-put-bytes
-slice-aggregate-put-bytes c = search needs
-
-put-bytes-requires : tie.Need-put-bytes-requires
-put-bytes-requires c κs = search needs
+too-long-requires : tie.Need-too-long-requires
+too-long-requires c κs = search needs
 
 same-length : tie.Need-same-length
 same-length c = search needs
 
 returns : tie.Need-returns
-returns c = refused (c .before .before .before .before .before .before .before .before .args .log .now) (omega (arith, c .before .before .before .before .before .if1 .taken)) (c .before .before .before .before .before .before .before .before .args .out .now) (c .before .before .put-bytes .last .1 .0) (c .before .before .put-bytes .result) (c .before .before .put-bytes .ensures)
+returns c =
+    let q = c .before .before in
+    let t = q .before .before in
+    let s = t .before .before .before in
+    refused (s .args .log .now) (omega (arith, t .if1 .taken)) (s .args .out .now) (q .too-long .last .0) (q .too-long .result)
+    (put-at tooLong (s .args .out .now) 0 (q .too-long .last .0) (q .too-long .result) (omega (arith, s .pre)) (q .too-long .ensures .0))
 
 reset-requires : tie.Need-reset-requires
 reset-requires c κs = search needs
@@ -37,8 +41,7 @@ pub output-spec : {M : Type 1} → statement M
 output-spec =
     tie.close
     (tie.spec
-    slice-aggregate-put-bytes
-    put-bytes-requires
+    too-long-requires
     same-length
     returns
     reset-requires
