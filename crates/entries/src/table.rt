@@ -1,11 +1,8 @@
 // The 24 entries, and what each step makes of them.
-// An array is taken out of the entries before one of its elements is read or stored: a struct with an element of it indexed
-// is kept in memory and copied whole, one whose parts are only moved is not.
 ghost use mathlib.Core.Path.{_≡_};
-ghost use Rattle.entries.specs.Table.{resetEntries, wordsOk, edgesOk, entriesOk, levelsOk, edgePins, activeLows, firstEligible, eligiblePins, lowAt, destinationAt, wired, wiredAt, ended, given, taken, lowShown, highShown, lowWritten, highWritten};
+ghost use Rattle.entries.specs.Table.{resetEntries, firstEligible, eligiblePins, lowAt, destinationAt, ended, given, taken, lowShown, highShown, lowWritten, highWritten};
 use crate::Entries;
 use crate::Low;
-use crate::pin::held_by;
 use answers::Answer;
 
 impl Entries {
@@ -22,55 +19,6 @@ impl Entries {
             level: [0; 24],
             held: [0; 24],
         }
-    }
-
-    fn words_ok(low: [u32; 24]) -> bool
-        ensures { λ r. ⌜ r ≡ wordsOk low ⌝ }
-    {
-        let mut ok = true;
-        let mut i: usize = 0;
-        while i < Entries::PINS {
-            ok = ok & Low(low[i]).word_ok();
-            i += 1;
-        }
-        ok
-    }
-
-    // No level pin holds an edge.
-    fn edges_ok(low: [u32; 24], held: [u8; 24]) -> bool
-        ensures { λ r. ⌜ r ≡ edgesOk low held ⌝ }
-    {
-        let mut ok = true;
-        let mut i: usize = 0;
-        while i < Entries::PINS {
-            ok = ok & !(Low(low[i]).is_level() & (held[i] == 1));
-            i += 1;
-        }
-        ok
-    }
-
-    // A test of its own for each kind of part, so that each loop is worked out in vectors of one width.
-    pub fn well_formed(self) -> bool
-        ensures { λ r. ⌜ r ≡ entriesOk self ⌝ }
-    {
-        let low = self.low;
-        let level = self.level;
-        let held = self.held;
-        Entries::words_ok(low)
-            & (Entries::edges_ok(low, held)
-                & (Entries::levels_ok(level) & Entries::levels_ok(held)))
-    }
-
-    pub fn levels_ok(levels: [u8; 24]) -> bool
-        ensures { λ r. ⌜ r ≡ levelsOk levels ⌝ }
-    {
-        let mut ok = true;
-        let mut i: usize = 0;
-        while i < Entries::PINS {
-            ok = ok & (levels[i] <= 1);
-            i += 1;
-        }
-        ok
     }
 
     pub fn first_eligible(self) -> usize
@@ -102,74 +50,6 @@ impl Entries {
             mask = mask << 1 | Low(low[i]).eligible(level[i], held[i]) as u32;
         }
         mask
-    }
-
-    // Which pins take edges, and which are active low, a byte each: the words are taken apart in vectors of their own width.
-    fn edge_pins(low: [u32; 24]) -> [u8; 24]
-        ensures { λ r. ⌜ r ≡ edgePins low ⌝ }
-    {
-        let mut edges: [u8; 24] = [0; 24];
-        let mut i: usize = 0;
-        while i < Entries::PINS {
-            edges[i] = Low(low[i]).takes_edges() as u8;
-            i += 1;
-        }
-        edges
-    }
-
-    fn active_lows(low: [u32; 24]) -> [u8; 24]
-        ensures { λ r. ⌜ r ≡ activeLows low ⌝ }
-    {
-        let mut lows: [u8; 24] = [0; 24];
-        let mut i: usize = 0;
-        while i < Entries::PINS {
-            lows[i] = Low(low[i]).active_low();
-            i += 1;
-        }
-        lows
-    }
-
-    pub fn wired(self, levels: [u8; 24]) -> Entries
-        ensures { λ r. ⌜ r ≡ wired self levels ⌝ }
-    {
-        let low = self.low;
-        let level = self.level;
-        let edges = Entries::edge_pins(low);
-        let lows = Entries::active_lows(low);
-        let mut held = self.held;
-        let mut i: usize = 0;
-        while i < Entries::PINS {
-            held[i] = held_by(edges[i], lows[i], level[i], levels[i], held[i]);
-            i += 1;
-        }
-        let destination = self.destination;
-        Entries {
-            low,
-            destination,
-            level: levels,
-            held,
-        }
-    }
-
-    // One wire changes. There is no pin above 23.
-    pub fn wired_at(self, n: usize, level: u8) -> Entries
-        ensures { λ r. ⌜ r ≡ wiredAt self n level ⌝ }
-    {
-        if Entries::PINS <= n {
-            return self;
-        }
-        let low = self.low;
-        let mut levels = self.level;
-        let mut held = self.held;
-        held[n] = Low(low[n]).held_after(levels[n], level, held[n]);
-        levels[n] = level;
-        let destination = self.destination;
-        Entries {
-            low,
-            destination,
-            level: levels,
-            held,
-        }
     }
 
     pub fn ended(self, vector: u8) -> Entries

@@ -1,14 +1,15 @@
 // One timer of the block, by value: its registers, its firing, and many ticks of it at once.
+mod registers;
+mod tick;
+
 ghost use mathlib.Core.Path.{_≡_};
-ghost use Prim.Native.Nat.{_+_, _-_, _*_, _/_, _%_, _^_, _<_};
+ghost use Prim.Native.Nat.{_/_, _%_, _^_};
 ghost use mathlib.Core.Bool.{cond};
 ghost use lib.Dec.{ltb};
-ghost use Rattle.timer.specs.State.{width, reduced, blank, resetTimer};
+ghost use Rattle.timer.specs.State.{reduced, blank, resetTimer};
 ghost use Rattle.timer.specs.Formed.{flagsFit, narrowFits, timerFormed};
-ghost use Rattle.timer.specs.Registers.{bit, placed, configurationOf, configuredOf, comparedOf, clearedOf};
-ghost use Rattle.timer.specs.Tick.{meets, firing, pulsing, raising, driving, holding};
-ghost use Rattle.timer.specs.Alone.{runOf};
-ghost use Rattle.timer.specs.Closed.{times, stride, firedTo, Ahead};
+ghost use Rattle.timer.specs.Registers.{bit, placed};
+ghost use Rattle.timer.specs.Closed.{times};
 
 // Flags are 0 or 1: any other value is a state that is not well formed. No byte of it is padding.
 #[repr(C)]
@@ -178,170 +179,5 @@ impl Timer {
         let set = (self.set_comparator == 0) | (self.periodic == 1);
         let shown = (self.status == 0) | (self.level_type == 1);
         set & (self.narrow_fits() & ((self.route < 24) & (shown & self.flags_fit())))
-    }
-
-    // ---- one tick
-
-    // Whether counter and comparator are equal, in 32-bit mode modulo 2^32.
-    pub fn matches(self, counter: u64) -> bool
-        ensures { λ r. ⌜ r ≡ meets counter self ⌝ }
-    {
-        let narrow = self.narrow == 1;
-        reduced(narrow, counter) == reduced(narrow, self.comparator)
-    }
-
-    // Status and comparator after firings: `next` is where a periodic timer's comparator goes, but for its width.
-    fn fired_to(self, next: u64) -> Timer
-        ensures { λ r. ⌜ r ≡ firedTo self next ⌝ }
-    {
-        let mut t = self;
-        t.comparator = choose(
-            self.periodic == 1,
-            reduced(self.narrow == 1, next),
-            self.comparator,
-        );
-        t.status = choose_flag(self.level_type == 1, 1, self.status);
-        t
-    }
-
-    // One firing.
-    pub fn fired(self) -> Timer
-        ensures { λ r. ⌜ r ≡ firing self ⌝ }
-    {
-        self.fired_to(std::num::wrapping_add_u64(self.comparator, self.period))
-    }
-
-    // Its firing is a pulse.
-    pub fn pulses(self) -> bool
-        ensures { λ r. ⌜ r ≡ pulsing self ⌝ }
-    {
-        !(self.level_type == 1) & (self.interrupt == 1)
-    }
-
-    // Its firing raises the wire of its pin for good, in a block that is enabled.
-    pub fn raises(self) -> bool
-        ensures { λ r. ⌜ r ≡ raising self ⌝ }
-    {
-        (self.level_type == 1) & (self.interrupt == 1)
-    }
-
-    // It holds the wire of the pin high, in a block that is enabled.
-    pub fn drives(self, pin: u16) -> bool
-        ensures { λ r. ⌜ r ≡ driving self pin ⌝ }
-    {
-        (self.level_type == 1)
-            & ((self.interrupt == 1) & ((self.status == 1) & (self.route == pin)))
-    }
-
-    // It holds the wire of its pin high, in a block that is enabled.
-    pub fn holds(self) -> bool
-        ensures { λ r. ⌜ r ≡ holding self ⌝ }
-    {
-        (self.level_type == 1) & ((self.interrupt == 1) & (self.status == 1))
-    }
-
-    // ---- many ticks at once
-
-    // Ticks from the counter to the next match: 0 where they are equal.
-    fn distance(self, counter: u64) -> u64
-        ensures { λ r. ⌜ Ahead counter self r ⌝ }
-    {
-        reduced(
-            self.narrow == 1,
-            std::num::wrapping_sub_u64(self.comparator, counter),
-        )
-    }
-
-    // How far a firing moves the comparator.
-    fn stride(self) -> u64
-        ensures { λ r. ⌜ r ≡ stride self ⌝ }
-    {
-        choose(
-            self.periodic == 1,
-            reduced(self.narrow == 1, self.period),
-            0,
-        )
-    }
-
-    // The ticks that follow the counter.
-    pub fn ran(self, counter: u64, ticks: u32) -> Run
-        ensures { λ r. ⌜ r ≡ runOf self counter ticks ⌝ }
-    {
-        let due = self.distance(counter);
-        let stride = self.stride();
-        let fired = firings(due, stride, ticks);
-        if fired == 0 {
-            return Run {
-                timer: self,
-                fired: 0,
-                first: 0,
-            };
-        }
-        let last = std::num::wrapping_add_u64(self.comparator, (fired - 1) * stride);
-        let next = std::num::wrapping_add_u64(last, stride);
-        Run {
-            timer: self.fired_to(next),
-            fired: fired as u32,
-            first: due as u32,
-        }
-    }
-
-    // ---- registers
-
-    // What its configuration register reads.
-    pub fn configuration(self) -> u64
-        ensures { λ r. ⌜ r ≡ configurationOf self ⌝ }
-    {
-        let low = placed(self.periodic, Timer::PERIODIC)
-            | (placed(self.interrupt, Timer::INTERRUPT)
-                | placed(self.level_type, Timer::LEVEL_TYPE));
-        let high = placed(self.narrow, Timer::NARROW)
-            | (placed(self.set_comparator, Timer::SET_COMPARATOR) | (low | Timer::CAPABLE));
-        (((self.route as u64) << Timer::ROUTE) | high) | Timer::ROUTES
-    }
-
-    // A write to its configuration register.
-    pub fn configured(self, value: u64) -> Timer
-        ensures { λ r. ⌜ r ≡ configuredOf self value ⌝ }
-    {
-        let level_type = bit(value, Timer::LEVEL_TYPE);
-        let periodic = bit(value, Timer::PERIODIC);
-        let narrow = bit(value, Timer::NARROW);
-        Timer {
-            comparator: reduced(narrow == 1, self.comparator),
-            period: reduced(narrow == 1, self.period),
-            route: routed(value, self.route),
-            level_type,
-            interrupt: bit(value, Timer::INTERRUPT),
-            periodic,
-            set_comparator: choose_flag(periodic == 1, bit(value, Timer::SET_COMPARATOR), 0),
-            narrow,
-            status: choose_flag(level_type == 1, self.status, 0),
-        }
-    }
-
-    // A write to its comparator register.
-    pub fn compared(self, value: u64) -> Timer
-        ensures { λ r. ⌜ r ≡ comparedOf self value ⌝ }
-    {
-        let x = reduced(self.narrow == 1, value);
-        let mut t = self;
-        if self.periodic == 1 {
-            t.comparator = choose(self.set_comparator == 1, x, self.comparator);
-            t.period = x;
-            t.set_comparator = 0;
-            return t;
-        }
-        t.comparator = x;
-        t
-    }
-
-    // A write of 1 to its status.
-    pub fn cleared(self) -> Timer
-        ensures { λ r. ⌜ r ≡ clearedOf self ⌝ }
-    {
-        let mut t = self;
-        t.status = 0;
-        t
     }
 }

@@ -1,0 +1,69 @@
+// The registers of a timer.
+ghost use mathlib.Core.Path.{_≡_};
+ghost use Rattle.timer.specs.Registers.{configurationOf, configuredOf, comparedOf, clearedOf};
+use crate::Timer;
+use crate::bit;
+use crate::choose;
+use crate::choose_flag;
+use crate::placed;
+use crate::reduced;
+use crate::routed;
+
+impl Timer {
+    // What its configuration register reads.
+    pub fn configuration(self) -> u64
+        ensures { λ r. ⌜ r ≡ configurationOf self ⌝ }
+    {
+        let low = placed(self.periodic, Timer::PERIODIC)
+            | (placed(self.interrupt, Timer::INTERRUPT)
+                | placed(self.level_type, Timer::LEVEL_TYPE));
+        let high = placed(self.narrow, Timer::NARROW)
+            | (placed(self.set_comparator, Timer::SET_COMPARATOR) | (low | Timer::CAPABLE));
+        (((self.route as u64) << Timer::ROUTE) | high) | Timer::ROUTES
+    }
+
+    // A write to its configuration register.
+    pub fn configured(self, value: u64) -> Timer
+        ensures { λ r. ⌜ r ≡ configuredOf self value ⌝ }
+    {
+        let level_type = bit(value, Timer::LEVEL_TYPE);
+        let periodic = bit(value, Timer::PERIODIC);
+        let narrow = bit(value, Timer::NARROW);
+        Timer {
+            comparator: reduced(narrow == 1, self.comparator),
+            period: reduced(narrow == 1, self.period),
+            route: routed(value, self.route),
+            level_type,
+            interrupt: bit(value, Timer::INTERRUPT),
+            periodic,
+            set_comparator: choose_flag(periodic == 1, bit(value, Timer::SET_COMPARATOR), 0),
+            narrow,
+            status: choose_flag(level_type == 1, self.status, 0),
+        }
+    }
+
+    // A write to its comparator register.
+    pub fn compared(self, value: u64) -> Timer
+        ensures { λ r. ⌜ r ≡ comparedOf self value ⌝ }
+    {
+        let x = reduced(self.narrow == 1, value);
+        let mut t = self;
+        if self.periodic == 1 {
+            t.comparator = choose(self.set_comparator == 1, x, self.comparator);
+            t.period = x;
+            t.set_comparator = 0;
+            return t;
+        }
+        t.comparator = x;
+        t
+    }
+
+    // A write of 1 to its status.
+    pub fn cleared(self) -> Timer
+        ensures { λ r. ⌜ r ≡ clearedOf self ⌝ }
+    {
+        let mut t = self;
+        t.status = 0;
+        t
+    }
+}
