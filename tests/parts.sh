@@ -4,12 +4,12 @@ passed=0 failed=0
 # program: target/bin/replay, built if it isn't there
 program() { [ -x target/bin/replay ] || rt check replay; }
 
-# archive: target/staticlib/libmonitor.a, built unless it is newer than all that crates/ has
+# archive: target/staticlib/libnataqvoju.a, built unless it is newer than all that crates/ has
 archive() {
-  local archive=target/staticlib/libmonitor.a
+  local archive=target/staticlib/libnataqvoju.a
   [ -f "$archive" ] && [ -z "$(find crates crates.txt -newer "$archive" -print -quit)" ] && return
   rm -f "$archive"
-  rt staticlib monitor && [ -f "$archive" ]
+  rt staticlib nataqvoju && [ -f "$archive" ]
 }
 
 # tallied SAID STATUS: the counts of a command that printed SAID and ended with STATUS, as 'N M'. They are those of its

@@ -1,11 +1,9 @@
 -- A refused call gives no value: read value 0, counts 0, no delivery. Any two results that one equation allows are equal.
-use mathlib.Core.Path.{_≡_, refl, sym, ap, _∙_}
+use mathlib.Core.Path.{_≡_, refl, sym, _∙_}
 use Prim.Native.Nat.{ℕ}
-use Rattle.answers.specs.declared.Refusal.{Refusal}
-use Rattle.answers.specs.declared.Refusal.the-variants as refusal
 use Rattle.answers.specs.declared.Answer.{Answer}
 use Rattle.answers.specs.declared.Answer.the-variants as answer
-use Rattle.answers.specs.Numbers.{numberOf, bare, numbersOf}
+use Rattle.answers.specs.Numbers.{bare, numbersOf}
 
 abbrev pub answerNumber : Answer → ℕ
 answerNumber a = numbersOf a .number

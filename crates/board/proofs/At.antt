@@ -10,12 +10,12 @@ use lib.ListN.{getD, length, set, length-set}
 use lib.Seq.{ext-getD, getD-set-same, getD-set-other, set-getD}
 use mir.Val.{boolByte}
 use borrow.Author.Tests.{eq-eqb, ne-eqb, ltb-true}
-use Rattle.pins.proofs.Bools.{clash, not-true-false}
+use Rattle.pins.proofs.Bools.{clash}
 use Rattle.answers.specs.declared.Answer.the-variants as answer
 use Rattle.answers.specs.declared.Refusal.the-variants as refusal
 use Rattle.entries.specs.declared.Entries.{Entries}
 use Rattle.entries.specs.Pin.{heldAfter}
-use Rattle.entries.specs.Table.{lowAt, levelAt, heldAt, withHeld, withLevel, wired, wiredAt, pulsed}
+use Rattle.entries.specs.Table.{lowAt, levelAt, heldAt, withHeld, withLevel, wired}
 use Rattle.entries.proofs.Pulse.{wired-one, wired-same}
 use Rattle.entries.proofs.One.{one-is, pulsed-one}
 use Rattle.controller.specs.declared.Controller.{Controller}
@@ -33,7 +33,6 @@ use Rattle.timers.proofs.Wires.{fired-drives}
 use Rattle.timers.proofs.First.{first-here, fired-before}
 use Rattle.board.specs.declared.Board.{Board}
 use Rattle.board.specs.State.{board, turn, refused}
-use Rattle.board.specs.Formed.{wellFormed}
 use Rattle.board.specs.Wires.{highAt, wiresOf, joined}
 use Rattle.board.specs.Tick.{fire, turned, upTo, tick, ticks}
 use Rattle.board.specs.Step.{wiringOf, advancingOf}

@@ -1,7 +1,7 @@
 -- The demands, for a reader who looks here first: the paper's sentence stands above each theorem.
 -- Sized says that a board's lists are as long as the code's arrays; it holds of every value that the code can have.
 use Prim.Native.Nat.{ℕ, zero, suc, _+_, _<_, _^_}
-use mathlib.Core.Path.{_≡_, refl, sym, ap, ap₂, subst, _∙_}
+use mathlib.Core.Path.{_≡_, refl, sym, ap, ap₂, _∙_}
 use mathlib.Core.Bool.{Bool, true, false, not, cond, _||_}
 use mathlib.Core.List.{List, [], _∷_}
 use native.Mathlib.Omega.{arith}
@@ -21,16 +21,15 @@ use Rattle.entries.proofs.Pulse.{wired-same}
 use Rattle.entries.proofs.Delivery.{Lowest}
 use Rattle.controller.specs.declared.Controller.{Controller}
 use Rattle.controller.specs.declared.Turn.{Turn as ControllerTurn}
-use Rattle.controller.specs.State.{wellFormed as controllerFormed, withEntries}
+use Rattle.controller.specs.State.{withEntries}
 use Rattle.controller.specs.Window.{readingOf as controllerReading, writingOf as controllerWriting}
 use Rattle.controller.specs.Steps.{afterEnd, rewired, deliveringOf, deliverOf}
 use Rattle.controller.proofs.Demands.{reading-decided, writing-decided, delivering-decided, deliver-served, delivers-only-if, delivers-if, none-only-if, none-if}
 use Rattle.timer.specs.declared.Timer.{Timer}
 use Rattle.timers.specs.declared.Timers.{Timers}
 use Rattle.timers.specs.State.{at}
-use Rattle.timers.specs.Formed.{wellFormed as timersFormed}
 use Rattle.timers.specs.Registers.{aligned, inside}
-use Rattle.timers.specs.Tick.{ticks as timersTicks, firings as timersFirings}
+use Rattle.timers.specs.Tick.{ticks as timersTicks}
 use Rattle.timers.specs.declared.Turn.{Turn as TimersTurn}
 use Rattle.timers.specs.Call.{readingOf as timersReading, writingOf as timersWriting}
 use Rattle.timers.proofs.Decided.{reading-decided as timers-reading-decided, writing-decided as timers-writing-decided}
@@ -41,14 +40,14 @@ use Rattle.board.specs.declared.Call.{Call}
 use Rattle.board.specs.declared.Call.the-variants as call
 use Rattle.board.specs.declared.Turn.{Turn}
 use Rattle.board.specs.State.{board, withController, turn, refused}
-use Rattle.board.specs.Wires.{wiresOf, joined}
+use Rattle.board.specs.Wires.{joined}
 use Rattle.board.specs.Formed.{wellFormed}
 use Rattle.board.specs.Tick.{ticks, firings}
 use Rattle.board.specs.Step.{byController, byTimers, readingOf, writingOf, wiringOf, endingOf, advancingOf, deliveringOnBoard, servedOf, turnOf}
 use Rattle.board.specs.Runs.{run, testsOf}
 use Rattle.board.proofs.Formed.{Sized, Formed, formed-in, formed-out}
 use Rattle.board.proofs.Ticks.{ticks-add, firings-add, ticks-formed, ticks-timers, ticks-firings}
-use Rattle.board.proofs.Keeps.{keeps, served, unformed, step-formed}
+use Rattle.board.proofs.Keeps.{keeps, served, step-formed}
 
 -- ---- demand 1: "A bad width, address, pin, number, state or log record gets the refusal that document 01 names, exactly when 01 says so;
 -- the state handed back is the one that came in, … and a refused read gives zero."

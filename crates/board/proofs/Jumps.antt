@@ -1,6 +1,6 @@
 -- The advance: what its code cites.
-use Prim.Native.Nat.{ℕ, zero, suc, _+_, _-_, _<_, _≤_, zero-le}
-use mathlib.Core.Path.{_≡_, refl, sym, ap, ap₂, _∙_}
+use Prim.Native.Nat.{ℕ, zero, suc, _+_, _<_, _≤_, zero-le}
+use mathlib.Core.Path.{_≡_, refl, sym, ap, _∙_}
 use mathlib.Core.Bool.{Bool, true, false, cond, _||_}
 use mathlib.Core.Logic.{_⊎_, inl, inr}
 use mathlib.Core.List.{List}
@@ -14,18 +14,15 @@ use Rattle.answers.specs.declared.Answer.the-variants as answer
 use Rattle.controller.specs.declared.Controller.{Controller}
 use Rattle.timers.specs.declared.Timers.{Timers}
 use Rattle.timers.specs.declared.Ran.{Ran}
-use Rattle.timers.specs.State.{three}
-use Rattle.timers.specs.Tick.{ticks as timersTicks, firings as timersFirings, first, ranOf}
+use Rattle.timers.specs.Tick.{ticks as timersTicks, ranOf}
 use Rattle.timers.proofs.Turns.{ran-timers, ran-fired}
-use Rattle.timers.proofs.First.{first-le}
 use Rattle.board.specs.declared.Board.{Board}
 use Rattle.board.specs.State.{board, turn}
-use Rattle.board.specs.Formed.{wellFormed}
-use Rattle.board.specs.Tick.{tick, ticks, firings}
+use Rattle.board.specs.Tick.{ticks, firings}
 use Rattle.board.specs.Step.{advancingOf}
 use Rattle.board.specs.Next.{soonerOf, nextOf, dueOf}
-use Rattle.board.proofs.Formed.{Formed, formed-out}
-use Rattle.board.proofs.Ticks.{ticks-formed, ticks-timers, ticks-outside, ticks-firings, jump}
+use Rattle.board.proofs.Formed.{Formed}
+use Rattle.board.proofs.Ticks.{ticks-timers, ticks-outside, ticks-firings}
 
 -- ---- the next tick to take
 

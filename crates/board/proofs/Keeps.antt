@@ -1,27 +1,23 @@
 -- Every call turns a well-formed board into one.
 use Prim.Native.Nat.{ℕ}
-use mathlib.Core.Path.{_≡_, refl, sym, ap, subst, _∙_}
+use mathlib.Core.Path.{_≡_, refl, sym, subst, _∙_}
 use mathlib.Core.Bool.{Bool, true, false, cond}
-use mathlib.Core.List.{List}
 use lib.Dec.{leb, ltb, eqb}
-use lib.ListN.{set, replicate}
-use Rattle.answers.specs.declared.Answer.{Answer}
+use lib.ListN.{set}
 use Rattle.answers.specs.declared.Answer.the-variants as answer
 use Rattle.answers.specs.declared.Refusal.the-variants as refusal
-use Rattle.entries.proofs.Sized.{Sized as EntriesSized}
 use Rattle.entries.proofs.Pulse.{set-ok}
 use Rattle.entries.proofs.Delivery.{ended-level}
 use Rattle.controller.specs.declared.Controller.{Controller}
 use Rattle.controller.specs.declared.Turn.{Turn as ControllerTurn}
 use Rattle.controller.specs.Window.{readingOf as controllerReading, writingOf as controllerWriting}
-use Rattle.controller.specs.Steps.{afterEnd, deliveringOf}
-use Rattle.controller.proofs.Formed.{Keeps, reading-same, writing-keeps, writing-levels, ended-keeps, delivering-keeps, delivering-levels, reset-formed as controller-reset-formed}
+use Rattle.controller.specs.Steps.{deliveringOf}
+use Rattle.controller.proofs.Formed.{Keeps, reading-same, writing-keeps, writing-levels, ended-keeps, delivering-keeps, delivering-levels}
 use Rattle.timers.specs.Call.{readingOf as timersReading, writingOf as timersWriting}
-use Rattle.timers.proofs.Formed.{writing-formed, reset-formed as timers-reset-formed}
+use Rattle.timers.proofs.Formed.{writing-formed}
 use Rattle.board.specs.declared.Board.{Board}
 use Rattle.board.specs.declared.Call.{Call}
 use Rattle.board.specs.declared.Call.the-variants as call
-use Rattle.board.specs.declared.Turn.{Turn}
 use Rattle.board.specs.State.{board, resetBoard, withController, turn, refused}
 use Rattle.board.specs.Wires.{joined}
 use Rattle.board.specs.Formed.{wellFormed}

@@ -8,7 +8,7 @@ use native.Mathlib.Omega.{arith}
 use native.Mathlib.Nat.{add-zero, add-suc}
 use native.Mathlib.Numerals.{add-one}
 use lib.Dec.{eqb, ltb, lit≤}
-use lib.ListN.{getD, length, set, length-set}
+use lib.ListN.{getD, length, length-set}
 use lib.Seq.{set-out}
 use borrow.Author.Tests.{ne-eqb, ltb-false}
 use Rattle.entries.specs.declared.Entries.{Entries}

@@ -11,13 +11,12 @@ use Rattle.entries.proofs.Pulse.{settled}
 use Rattle.controller.specs.declared.Controller.{Controller}
 use Rattle.timers.specs.declared.Timers.{Timers}
 use Rattle.timers.specs.State.{isEnabled}
-use Rattle.timers.specs.Tick.{countedOf, matchesOf, firedOf, turnedOf, pulsesOf, routeOf, upTo as timersUpTo, tick as timersTick, firesIn as timersFiresIn}
+use Rattle.timers.specs.Tick.{countedOf, matchesOf, turnedOf, pulsesOf, routeOf, upTo as timersUpTo, tick as timersTick, firesIn as timersFiresIn}
 use Rattle.timers.proofs.Each.{tick-on, tick-off}
 use Rattle.timers.proofs.Wires.{risenOf, counted-drives, counted-risen, counted-pulses, counted-route, fired-matches}
 use Rattle.timers.proofs.Turns.{turned-fires, turned-rests, turns-zero, turns-suc, turns-matches, turns-pulses, turns-route, turns-risen, fires-on, fires-when, fires-off}
 use Rattle.timers.proofs.Formed.{counted-formed}
 use Rattle.board.specs.declared.Board.{Board}
-use Rattle.board.specs.Wires.{wiresOf}
 use Rattle.board.specs.Tick.{fire, turned, upTo, tick, firesIn}
 use Rattle.board.proofs.Rule.{wires-same}
 use Rattle.board.proofs.Formed.{Formed}

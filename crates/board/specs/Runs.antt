@@ -1,6 +1,6 @@
 -- Sequences of calls, for the statements over any sequence; and the tests of each call in the paper's order.
-use Prim.Native.Nat.{ℕ, _+_, _^_}
-use mathlib.Core.Bool.{Bool, not, cond, _||_}
+use Prim.Native.Nat.{ℕ, _^_}
+use mathlib.Core.Bool.{not, cond, _||_}
 use mathlib.Core.List.{List, [], _∷_}
 use lib.Dec.{leb, ltb, eqb}
 use Rattle.answers.specs.declared.Answer.{Answer}
@@ -9,7 +9,6 @@ use Rattle.timers.specs.Registers.{aligned, inside}
 use Rattle.board.specs.declared.Board.{Board}
 use Rattle.board.specs.declared.Call.{Call}
 use Rattle.board.specs.declared.Call.the-variants as call
-use Rattle.board.specs.declared.Turn.{Turn}
 use Rattle.board.specs.Formed.{wellFormed}
 use Rattle.board.specs.Step.{turnOf}
 

@@ -2,7 +2,6 @@
 -- window's own tests: 2, 1 for the offset, 4. A wire change tests 3, then 4.
 use Prim.Native.Nat.{ℕ}
 use mathlib.Core.Bool.{Bool, cond}
-use mathlib.Core.List.{List}
 use lib.Dec.{leb, ltb, eqb}
 use lib.ListN.{set}
 use Rattle.answers.specs.declared.Answer.the-variants as answer
@@ -16,7 +15,7 @@ use Rattle.board.specs.declared.Board.{Board}
 use Rattle.board.specs.declared.Call.{Call}
 use Rattle.board.specs.declared.Call.the-variants as call
 use Rattle.board.specs.declared.Turn.{Turn}
-use Rattle.board.specs.State.{board, withController, turn, refused}
+use Rattle.board.specs.State.{withController, turn, refused}
 use Rattle.board.specs.State.{resetBoard as reset}
 use Rattle.board.specs.Wires.{joined}
 use Rattle.board.specs.Tick.{ticks, firings}

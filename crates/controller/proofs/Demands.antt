@@ -8,30 +8,29 @@ use native.Mathlib.Decide.{ℕ-discrete}
 use mir.Val.{boolByte}
 use lib.Dec.{T, eqb, leb, ltb}
 use lib.ListN.{getD, set}
-use borrow.Author.Tests.{lt-ltb, le-ltb, lt-leb, ltb-true, ltb-false, leb-false, eqb-true, eq-eqb, ne-eqb}
+use borrow.Author.Tests.{lt-ltb, le-ltb, lt-leb, ltb-true, ltb-false, eqb-true, ne-eqb}
 use Rattle.answers.specs.declared.Answer.{Answer}
 use Rattle.answers.specs.declared.Answer.the-variants as answer
 use Rattle.answers.specs.declared.Refusal.{Refusal}
 use Rattle.answers.specs.declared.Refusal.the-variants as refusal
-use Rattle.answers.specs.declared.Numbers.{Numbers}
 use Rattle.answers.specs.Numbers.{numberOf, bare, numbersOf}
-use Rattle.answers.specs.Order.{Test, test, firstNumber, Given}
+use Rattle.answers.specs.Order.{Test, test, Given}
 use Rattle.answers.proofs.Order.{only-if, if, Decided, done-decided, refused-decided, later-decided}
 use Rattle.answers.proofs.Refused.{answerNumber, refused-bare, one-result}
 use Rattle.pins.proofs.Bools.{not-true-false}
 use Rattle.entries.specs.declared.Entries.{Entries}
 use Rattle.entries.specs.Word.{levelOf}
-use Rattle.entries.specs.Table.{levelsOk, firstEligible, eligibleAt, heldAt, wired, ended, given, taken, lowShown, lowWritten, highWritten}
+use Rattle.entries.specs.Table.{levelsOk, firstEligible, eligibleAt, heldAt, given, taken, lowShown, lowWritten, highWritten}
 use Rattle.entries.proofs.Sized.{Sized}
 use Rattle.entries.proofs.Pulse.{wired-keeps}
 use Rattle.entries.proofs.Delivery.{Lowest, first-le-24, lowest-found, lowest-of, none-eligible, none-eligible-of, ended-held, taken-held, low-written-held-other, low-written-held, taken-held-own, low-written-held-dropped, held-edge, bit-12}
 use Rattle.controller.specs.declared.Controller.{Controller}
 use Rattle.controller.specs.declared.Turn.{Turn}
 use Rattle.controller.specs.State.{withId, withIndex, withEntries, wellFormed, turn, refused, tested}
-use Rattle.controller.specs.Window.{dataRead, dataWritten, entryWritten, readingOf, writingOf, readOf, writeOf}
+use Rattle.controller.specs.Window.{dataRead, dataWritten, readingOf, writingOf, readOf, writeOf}
 use Rattle.controller.specs.Steps.{rewired, wireOf, wiresOf, afterEnd, endOf, deliveringOf, deliverOf}
 use Rattle.controller.specs.Calls.{Call, read, write, wire, wires, end, deliver, turnOf, testsOf}
-use Rattle.controller.proofs.Formed.{Formed, formed, reading-same}
+use Rattle.controller.proofs.Formed.{formed, reading-same}
 
 -- ---- refusals
 

@@ -19,7 +19,7 @@ use Rattle.entries.proofs.Pulse.{set-ok}
 use Rattle.entries.proofs.Delivery.{low-written-level, taken-level}
 use Rattle.controller.specs.declared.Controller.{Controller}
 use Rattle.controller.specs.declared.Turn.{Turn}
-use Rattle.controller.specs.State.{resetController, withId, withIndex, withEntries, wellFormed, turn, refused, tested}
+use Rattle.controller.specs.State.{resetController, withId, withIndex, withEntries, wellFormed, turn, refused}
 use Rattle.controller.specs.Window.{dataRead, dataWritten, readingOf, writingOf, readOf, writeOf, entryWritten}
 use Rattle.controller.specs.Steps.{rewired, wireOf, wiresOf, afterEnd, endOf, deliveringOf, deliverOf}
 use Rattle.controller.specs.Calls.{Call, read, write, wire, wires, end, deliver, turnOf}

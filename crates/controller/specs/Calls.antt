@@ -1,6 +1,6 @@
 -- Everything that can be done to a controller, as one list of calls, and the tests of each in the paper's order.
 use Prim.Native.Nat.{ℕ, _^_}
-use mathlib.Core.Bool.{Bool, not, _||_}
+use mathlib.Core.Bool.{not, _||_}
 use mathlib.Core.List.{List, [], _∷_}
 use lib.Dec.{leb, ltb, eqb}
 use Rattle.answers.specs.Order.{Test, test}

@@ -1,8 +1,7 @@
 -- The bench sheet's lines of the controller, B1 to B6 and B12, from reset, as one table with one statement.
-use Prim.Native.Nat.{ℕ, _+_, _*_, _^_}
+use Prim.Native.Nat.{ℕ, _+_, _*_}
 use mathlib.Core.Path.{_≡_, refl}
 use mathlib.Core.List.{List, [], _∷_, _++_, map}
-use lib.ListN.{replicate}
 use Rattle.answers.specs.declared.Numbers.{Numbers}
 use Rattle.answers.specs.Numbers.{numberOf, bare, withValue, withDelivery, numbersOf}
 use Rattle.pins.specs.Pins.{tab, firstFrom, allFrom}

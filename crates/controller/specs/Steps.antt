@@ -1,6 +1,6 @@
 -- Wires, end of interrupt and delivery (document 01, "Controller registers").
 use Prim.Native.Nat.{ℕ}
-use mathlib.Core.Bool.{Bool, cond}
+use mathlib.Core.Bool.{cond}
 use mathlib.Core.List.{List}
 use lib.Dec.{leb, ltb}
 use lib.ListN.{set}

@@ -2,7 +2,7 @@
 use mathlib.Core.Path.{_≡_, refl, sym, ap, _∙_}
 use mathlib.Core.Bool.{Bool, true, false, not, cond, _&&_}
 use mathlib.Core.List.{List}
-use Prim.Native.Nat.{ℕ, zero, suc, _+_, _-_, _*_, _/_, _%_, _<_}
+use Prim.Native.Nat.{ℕ, _+_, _-_, _*_, _/_, _%_, _<_}
 use native.Mathlib.Omega.{arith}
 use native.Mathlib.Nat.{mod-lt}
 use lib.Dec.{eqb, leb, lit<}
@@ -10,14 +10,14 @@ use lib.ListN.{getD, set}
 use lib.Seq.{set-getD}
 use borrow.Author.Tests.{eq-eqb, eqb-true}
 use Rattle.pins.specs.Pins.{allFrom, pins}
-use Rattle.pins.proofs.Bools.{clash, and-left, and-right, and-both, and-false, not-both, not-both-of}
+use Rattle.pins.proofs.Bools.{clash, and-left, and-right, and-both, not-both, not-both-of}
 use Rattle.pins.proofs.Every.{every-at, every-of}
 use Rattle.pins.proofs.Fill.{getD-tab}
 use Rattle.pins.proofs.Store.{getD-set}
 use Rattle.entries.specs.declared.Entries.{Entries}
-use Rattle.entries.specs.Word.{vectorOf, levelOf, remoteOf, maskedOf, withRemote, withoutRemote, writable, written, wordOk}
+use Rattle.entries.specs.Word.{vectorOf, levelOf, maskedOf, withRemote, withoutRemote, writable, written, wordOk}
 use Rattle.entries.specs.Pin.{asserted, makesEdge, heldAfter, endedWord, pinOk}
-use Rattle.entries.specs.Table.{resetEntries, lowAt, levelAt, heldAt, withLow, withHeld, withLevel, pinOkAt, entriesOk, levelsOk, wired, pulsed, ended, taken, lowWritten, highWritten, heldAfterWrite}
+use Rattle.entries.specs.Table.{resetEntries, lowAt, levelAt, heldAt, withLow, withHeld, withLevel, pinOkAt, entriesOk, levelsOk, wired, ended, taken, lowWritten, highWritten, heldAfterWrite}
 use Rattle.entries.proofs.Sized.{Sized}
 
 -- what `pinOk` tests

@@ -2,7 +2,7 @@
 use mathlib.Core.Path.{_≡_, refl, sym, ap, ap₂, _∙_}
 use mathlib.Core.List.{List}
 use Prim.Native.Nat.{ℕ, _<_}
-use lib.ListN.{getD, length, set, length-set}
+use lib.ListN.{set, length-set}
 use lib.Seq.{getD-set-same, set-getD, set-set}
 use Rattle.entries.specs.declared.Entries.{Entries}
 use Rattle.entries.specs.Pin.{heldAfter}

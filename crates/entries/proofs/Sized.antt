@@ -1,5 +1,5 @@
 -- The lists of a state are 24 long, as those of the code's arrays are; steps keep them so. There is no pin above 23.
-use mathlib.Core.Path.{_≡_, refl, sym, ap, ap₂, _∙_}
+use mathlib.Core.Path.{_≡_, ap, ap₂, _∙_}
 use mathlib.Core.Bool.{Bool, true, false, cond}
 use mathlib.Core.List.{List}
 use Prim.Native.Nat.{ℕ, _≤_}
@@ -9,7 +9,7 @@ use Rattle.pins.proofs.Fill.{length-tab}
 use Rattle.entries.specs.declared.Entries.{Entries}
 use Rattle.entries.specs.Word.{modeOf, maskedOf, levelOf, remoteOf, withRemote, written, shown}
 use Rattle.entries.specs.Pin.{heldAfter, asserted, eligible, endedWord}
-use Rattle.entries.specs.Table.{lowAt, destinationAt, levelAt, heldAt, withLow, withHeld, withLevel, wired, wiredAt, pulsed, ended, taken, lowShown, lowWritten, highWritten, heldAfterWrite, destinationOf}
+use Rattle.entries.specs.Table.{lowAt, destinationAt, levelAt, heldAt, withLow, withHeld, withLevel, wired, wiredAt, ended, taken, lowShown, lowWritten, highWritten, heldAfterWrite, destinationOf}
 
 pub record Sized (e : Entries) : Type 0 where
   pub low : length (e .low) ≡ 24

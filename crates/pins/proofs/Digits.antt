@@ -1,8 +1,8 @@
 -- A number whose bits are a predicate's values, built from the highest down, and the count of its trailing zeros.
-use mathlib.Core.Path.{_≡_, refl, sym, ap, ap₂, _∙_}
+use mathlib.Core.Path.{_≡_}
 use mathlib.Core.Bool.{Bool, true, false, cond}
-use Prim.Native.Nat.{ℕ, zero, suc, _+_, _-_, _*_, _/_, _%_, _^_, _<_, _≤_, min}
-use native.Mathlib.Nat.{pow-suc, mod-eq-of-lt, not-suc-le-zero, le-of-suc-le-suc, le-trans}
+use Prim.Native.Nat.{ℕ, zero, suc, _+_, _-_, _*_, _%_, _^_, _<_, _≤_, min}
+use native.Mathlib.Nat.{pow-suc, mod-eq-of-lt, not-suc-le-zero, le-of-suc-le-suc}
 use native.Mathlib.Omega.{arith}
 use lib.Dec.{lit<}
 use lib.Arith.{digits-div, digits-mod}

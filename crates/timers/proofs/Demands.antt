@@ -21,7 +21,7 @@ use Rattle.timers.specs.Tick.{countedOf, matchesOf, firedOf, ticks, firi
 use Rattle.timers.specs.Call.{turn, readingOf, writingOf, readOf, writeOf, advanceOf}
 use Rattle.timers.proofs.Access.{write-done, advance-done, advancing-is}
 use Rattle.timers.proofs.Formed.{reset-formed, ticks-formed, read-timers, writing-formed}
-use Rattle.timers.proofs.Numbers.{number, value, fired, Unchanged, accessNumber, read-number, write-number, exactly-0, exactly-1, exactly-2, exactly-5, advance-number, advance-fired, advance-timers, read-refusing, write-refusing, advance-refusing}
+use Rattle.timers.proofs.Numbers.{number, fired, Unchanged, accessNumber, read-number, write-number, exactly-0, exactly-1, exactly-2, exactly-5, advance-number, advance-fired, advance-timers, read-refusing, write-refusing, advance-refusing}
 use Rattle.timers.proofs.Portions.{ticks-add, firings-add, total}
 use Rattle.timers.proofs.Turns.{ran-timers}
 use Rattle.timers.proofs.Runs.{SameBut, ticks-alike, firings-alike}

@@ -1,7 +1,7 @@
 use mathlib.Core.Path.{sym, ap, _∙_}
 use mathlib.Core.List.{[], _∷_}
 use Rattle.answers.specs.declared.Numbers.{Numbers}
-use Rattle.answers.specs.Numbers.{numberOf, bare, withValue, withFired, numbersOf}
+use Rattle.answers.specs.Numbers.{bare, withValue, withFired, numbersOf}
 use borrow.Author.Needs.{needs}
 use Rattle.answers.proofs.Answer.numbers.Statement.{statement}
 use Rattle.answers.proofs.Answer.numbers.Tie as tie

@@ -1,4 +1,4 @@
-use mathlib.Core.Path.{_≡_, ap, _∙_}
+use mathlib.Core.Path.{ap, _∙_}
 use Rattle.entries.specs.declared.Entries.{Entries}
 use Rattle.controller.specs.State.{withEntries}
 use lib.ListN.{getD}

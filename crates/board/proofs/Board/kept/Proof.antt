@@ -1,12 +1,12 @@
 use mathlib.Core.Path.{_≡_, refl, sym, ap, ap₂, _∙_}
 use mathlib.Core.Bool.{Bool, _&&_, _||_}
-use mathlib.Core.List.{List, _++_}
+use mathlib.Core.List.{List}
 use lib.Dec.{eqb, leb}
-use lib.ListN.{getD, set, drop, replicate}
-use Prim.Native.Nat.{ℕ, _-_, _<_, _≤_}
+use lib.ListN.{getD}
+use Prim.Native.Nat.{ℕ, _-_, _≤_}
 use mir.Val.{boolByte}
 use native.Mathlib.Omega.{arith}
-use Rattle.board.specs.Wires.{highAt, wiresOf}
+use Rattle.board.specs.Wires.{highAt}
 use Rattle.board.proofs.Rule.{high-by}
 use Rattle.pins.specs.Pins.{allFrom, every}
 use Rattle.pins.proofs.Scan.{all-more}

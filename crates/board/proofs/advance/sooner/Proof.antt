@@ -1,5 +1,4 @@
-use mathlib.Core.Path.{_≡_, refl, sym, ap, _∙_}
-use borrow.Author.Tests.{not-true, not-false, lt-ltb, le-ltb, le-leb, lt-leb, eq-eqb, ne-eqb}
+use borrow.Author.Tests.{le-leb, lt-leb}
 use Rattle.board.specs.Next.{soonerOf}
 use Rattle.board.proofs.advance.sooner.Statement.{statement}
 use Rattle.board.proofs.advance.sooner.Tie as tie

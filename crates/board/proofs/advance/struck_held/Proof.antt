@@ -1,4 +1,4 @@
-use mathlib.Core.Path.{_≡_, refl, ap, _∙_}
+use mathlib.Core.Path.{ap, _∙_}
 use Rattle.entries.specs.Pin.{heldAfter}
 use Rattle.board.specs.At.{struckHeld}
 use borrow.Author.Needs.{needs}

@@ -1,5 +1,3 @@
-use mathlib.Core.Path.{_≡_, refl}
-use borrow.Author.Tests.{not-true, not-false}
 use Rattle.board.specs.At.{struckLevel}
 use Rattle.board.proofs.advance.struck_level.Statement.{statement}
 use Rattle.board.proofs.advance.struck_level.Tie as tie

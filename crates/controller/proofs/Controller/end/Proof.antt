@@ -1,5 +1,4 @@
-use mathlib.Core.Path.{_≡_, refl, sym, ap, _∙_}
-use borrow.Author.Tests.{not-true, not-false, lt-ltb, le-ltb, le-leb, lt-leb, eq-eqb, ne-eqb}
+use mathlib.Core.Path.{sym, _∙_}
 use Rattle.controller.specs.Steps.{endOf}
 use borrow.Author.Needs.{needs}
 use Rattle.controller.proofs.Controller.end.Statement.{statement}

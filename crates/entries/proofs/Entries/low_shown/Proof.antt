@@ -1,4 +1,4 @@
-use mathlib.Core.Path.{_≡_, sym, ap, _∙_}
+use mathlib.Core.Path.{_≡_, sym, _∙_}
 use lib.ListN.{length}
 use Rattle.entries.proofs.Sized.{low-shown-above}
 use Rattle.entries.specs.Table.{lowShown}

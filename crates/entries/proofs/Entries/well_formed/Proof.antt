@@ -1,4 +1,4 @@
-use mathlib.Core.Path.{_≡_, sym}
+use mathlib.Core.Path.{sym}
 use Rattle.entries.proofs.Apart.{ok-apart}
 use borrow.Author.Needs.{needs}
 use Rattle.entries.proofs.Entries.well_formed.Statement.{statement}

@@ -1,4 +1,4 @@
-use mathlib.Core.Path.{_≡_, sym, ap, _∙_}
+use mathlib.Core.Path.{_≡_, sym}
 use lib.ListN.{length}
 use Rattle.entries.proofs.Sized.{wired-at-above}
 use Rattle.entries.specs.Table.{wiredAt}

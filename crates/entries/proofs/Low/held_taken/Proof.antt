@@ -1,4 +1,4 @@
-use mathlib.Core.Path.{_≡_, sym, _∙_}
+use mathlib.Core.Path.{sym, _∙_}
 use Rattle.entries.specs.Pin.{heldTaken}
 use borrow.Author.Needs.{needs}
 use Rattle.entries.proofs.Low.held_taken.Statement.{statement}

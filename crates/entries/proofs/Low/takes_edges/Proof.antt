@@ -1,4 +1,3 @@
-use mathlib.Core.Path.{_≡_, sym, _∙_}
 use Rattle.entries.specs.Pin.{takesEdges}
 use borrow.Author.Needs.{needs}
 use Rattle.entries.proofs.Low.takes_edges.Statement.{statement}

@@ -1,4 +1,3 @@
-use mathlib.Core.Path.{_≡_}
 use Rattle.entries.specs.Pin.{heldBy}
 use Rattle.entries.proofs.pin.held_by.Statement.{statement}
 use Rattle.entries.proofs.pin.held_by.Tie as tie

@@ -1,0 +1,22 @@
+use borrow.Author.Needs.{needs}
+use Rattle.nataqvoju.proofs.calls.reset.Statement.{statement}
+use Rattle.nataqvoju.proofs.calls.reset.Tie as tie
+use Rattle.nataqvoju.proofs.calls.reset.Reads as reads
+use Rattle.nataqvoju.proofs.calls.reset.Lts as lts
+use Rattle.answers.proofs.Answer.numbers.Reads as numbers-reads
+use Rattle.board.proofs.Board.reset.Reads as reset-reads
+
+-- src/calls.rt:32:16
+reset-requires : tie.Need-reset-requires
+reset-requires c κs = search needs
+
+-- src/calls.rt:33:18
+numbers-requires : tie.Need-numbers-requires
+numbers-requires c κs = search needs
+
+-- src/calls.rt:28:1
+returns : tie.Need-returns
+returns c = cc
+
+pub reset-spec : {M : Type 1} → statement M
+reset-spec = tie.close (tie.spec reset-requires numbers-requires returns)
