@@ -13,27 +13,21 @@ use Rattle.board.proofs.Board.advancing.Lts as lts
 use Rattle.board.proofs.advance.struck.Reads as struck-reads
 use Rattle.timers.proofs.Timers.ran.Reads as ran-reads
 
--- src/advance.rt:113:13
 ran-requires : tie.Need-ran-requires
 ran-requires c κs = search needs
 
--- src/advance.rt:118:9
 struck-requires : tie.Need-struck-requires
 struck-requires c κs = search needs
 
--- src/advance.rt:125:35
 array-read-t15 : tie.Need-array-read-t15
 array-read-t15 c = search needs
 
--- src/advance.rt:125:45
 array-read-t18 : tie.Need-array-read-t18
 array-read-t18 c = search needs
 
--- src/advance.rt:125:55
 array-read-t21 : tie.Need-array-read-t21
 array-read-t21 c = search needs
 
--- src/advance.rt:106:5
 returns : tie.Need-returns
 unfolding advancingAt
 returns c =

@@ -11,32 +11,25 @@ use Rattle.controller.proofs.Controller.rewired.Reads as rewired-reads
 use Rattle.timers.proofs.Timers.pulses.Reads as pulses-reads
 use Rattle.timers.proofs.Timers.route.Reads as route-reads
 
--- src/tick.rt:38:13
 wires-requires : tie.Need-wires-requires
 wires-requires c κs = search needs
 
--- src/tick.rt:39:12
 pulses-requires : tie.Need-pulses-requires
 pulses-requires c κs = search needs
 
--- src/tick.rt:40:38
 route-requires : tie.Need-route-requires
 route-requires c κs = search needs
 
--- src/tick.rt:40:13
 pulsed-requires : tie.Need-pulsed-requires
 pulsed-requires c κs = search needs
 
--- src/tick.rt:40:13
 returns : tie.Need-returns
 unfolding effect
 returns c = rw (sym (c .before .before .before .pulses .ensures) ∙ c .before .before .if1 .taken, ← (c .before .before .before .before .wires .ensures), ← (c .before .route .ensures)) (c .pulsed .ensures)
 
--- src/tick.rt:42:9
 rewired-requires : tie.Need-rewired-requires
 rewired-requires c κs = search needs
 
--- src/tick.rt:32:5
 returns-2 : tie.Need-returns-2
 unfolding effect
 returns-2 c = rw (sym (c .before .before .pulses .ensures) ∙ c .before .if1 .left, ← (c .before .before .before .wires .ensures)) (c .rewired .ensures)

@@ -11,28 +11,22 @@ use Rattle.board.proofs.Board.tick.Lts as lts
 use Rattle.board.proofs.Board.turned.Reads as turned-reads
 use Rattle.timers.proofs.Timers.counted.Reads as counted-reads
 
--- src/tick.rt:69:13
 returns : tie.Need-returns
 unfolding tick
 returns c = rw (ne-eqb _ _ (c .if1 .taken))
 
--- src/tick.rt:72:21
 counted-requires : tie.Need-counted-requires
 counted-requires c κs = search needs
 
--- src/tick.rt:76:9
 turned-requires : tie.Need-turned-requires
 turned-requires c κs = search needs
 
--- src/tick.rt:76:9
 turned-requires-2 : tie.Need-turned-requires-2
 turned-requires-2 c κs = search needs
 
--- src/tick.rt:76:9
 turned-requires-3 : tie.Need-turned-requires-3
 turned-requires-3 c κs = search needs
 
--- src/tick.rt:62:5
 returns-2 : tie.Need-returns-2
 unfolding tick upTo
 returns-2 c =

@@ -10,24 +10,19 @@ use Rattle.board.proofs.Board.effect.Reads as effect-reads
 use Rattle.timers.proofs.Timers.fired.Reads as fired-reads
 use Rattle.timers.proofs.Timers.matches.Reads as matches-reads
 
--- src/tick.rt:51:13
 matches-requires : tie.Need-matches-requires
 matches-requires c κs = search needs
 
--- src/tick.rt:52:13
 returns : tie.Need-returns
 unfolding turned
 returns c = rw (sym (c .before .matches .ensures) ∙ not-true _ (c .if1 .taken))
 
--- src/tick.rt:54:13
 fired-requires : tie.Need-fired-requires
 fired-requires c κs = search needs
 
--- src/tick.rt:57:25
 effect-requires : tie.Need-effect-requires
 effect-requires c κs = search needs
 
--- src/tick.rt:46:5
 returns-2 : tie.Need-returns-2
 unfolding turned
 returns-2 c = rw (sym (c .before .before .before .matches .ensures) ∙ not-false _ (c .before .before .if1 .left), c .effect .ensures, c .before .fired .ensures)

@@ -6,31 +6,24 @@ use Rattle.board.proofs.advance.next.Reads as reads
 use Rattle.board.proofs.advance.next.Lts as lts
 use Rattle.board.proofs.advance.sooner.Reads as sooner-reads
 
--- src/advance.rt:33:12
 array-read-sooner : tie.Need-array-read-sooner
 array-read-sooner c = search needs
 
--- src/advance.rt:33:29
 array-read-sooner-2 : tie.Need-array-read-sooner-2
 array-read-sooner-2 c = search needs
 
--- src/advance.rt:33:46
 array-read-sooner-3 : tie.Need-array-read-sooner-3
 array-read-sooner-3 c = search needs
 
--- src/advance.rt:33:39
 sooner-requires : tie.Need-sooner-requires
 sooner-requires c κs = search needs
 
--- src/advance.rt:33:22
 sooner-requires-2 : tie.Need-sooner-requires-2
 sooner-requires-2 c κs = search needs
 
--- src/advance.rt:33:5
 sooner-requires-3 : tie.Need-sooner-requires-3
 sooner-requires-3 c κs = search needs
 
--- src/advance.rt:30:1
 returns : tie.Need-returns
 unfolding nextOf
 returns c = rw (← (c .before .before .sooner .ensures), ← (c .before .sooner2 .ensures)) (c .sooner3 .ensures)

@@ -5,17 +5,14 @@ use Rattle.board.proofs.advance.sooner.Tie as tie
 use Rattle.board.proofs.advance.sooner.Reads as reads
 use Rattle.board.proofs.advance.sooner.Lts as lts
 
--- src/advance.rt:24:9
 returns : tie.Need-returns
 unfolding soonerOf
 returns c = rw (le-leb _ _ (c .if1 .taken))
 
--- src/advance.rt:20:1
 returns-2 : tie.Need-returns-2
 unfolding soonerOf
 returns-2 c = rw (lt-leb _ _ (c .before .if1 .left), le-leb _ _ (c .if2 .taken))
 
--- src/advance.rt:20:1
 returns-3 : tie.Need-returns-3
 unfolding soonerOf
 returns-3 c = rw (lt-leb _ _ (c .before .if1 .left), lt-leb _ _ (c .if2 .left))

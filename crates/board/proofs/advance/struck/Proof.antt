@@ -72,20 +72,16 @@ hit c = eqb (getD (start (to c .before .before) .args .t3) (c .loop2 .m) 0) (to 
 in-pin : (c : tie.Then2 Inv-loop2 μ-loop2 Inv-loop μ-loop) → c .before .route .result < 24
 in-pin c = ltb-true _ _ (and-right (hit (c .before .before .before)) _ (c .if2 .taken))
 
--- src/advance.rt:72:5
 loop-holds : tie.Need-loop-holds Inv-loop2 μ-loop2 Inv-loop μ-loop
 unfolding struck
 loop-holds c = (omega arith, refl)
 
--- src/advance.rt:73:13
 next-requires : tie.Need-next-requires Inv-loop2 μ-loop2 Inv-loop μ-loop
 next-requires c κs = tt
 
--- src/advance.rt:74:13
 due-requires : tie.Need-due-requires Inv-loop2 μ-loop2 Inv-loop μ-loop
 due-requires c κs = tt
 
--- src/advance.rt:75:13
 returns : tie.Need-returns Inv-loop2 μ-loop2 Inv-loop μ-loop
 returns c =
     let d = c .before in
@@ -94,72 +90,55 @@ returns c =
     let t = start a .args in
     a .loop .inv .1 ∙ rest (t .s) (t .t3) (t .n) (a .loop .at) (x .next .result) (goes x) (t .e) (sym (d .due .ensures) ∙ not-true _ (c .if1 .taken))
 
--- src/advance.rt:83:9
 loop2-holds : tie.Need-loop2-holds Inv-loop2 μ-loop2 Inv-loop μ-loop
 unfolding strikes
 loop2-holds c = (omega arith, refl)
 
--- src/advance.rt:84:17
 route-requires : tie.Need-route-requires Inv-loop2 μ-loop2 Inv-loop μ-loop
 route-requires c κs = tt
 
--- src/advance.rt:85:17
 mul-if2 : tie.Need-mul-if2 Inv-loop2 μ-loop2 Inv-loop μ-loop
 mul-if2 c = omega arith
 
--- src/advance.rt:85:17
 array-read-if2 : tie.Need-array-read-if2 Inv-loop2 μ-loop2 Inv-loop μ-loop
 array-read-if2 c = omega arith
 
--- src/advance.rt:86:21
 pulses-requires : tie.Need-pulses-requires Inv-loop2 μ-loop2 Inv-loop μ-loop
 pulses-requires c κs = tt
 
--- src/advance.rt:87:21
 raises-requires : tie.Need-raises-requires Inv-loop2 μ-loop2 Inv-loop μ-loop
 raises-requires c κs = tt
 
--- src/advance.rt:88:30
 array-read-before : tie.Need-array-read-before Inv-loop2 μ-loop2 Inv-loop μ-loop
 array-read-before c = in-pin (c .before .before)
 
--- src/advance.rt:89:39
 mul-struck-held : tie.Need-mul-struck-held Inv-loop2 μ-loop2 Inv-loop μ-loop
 mul-struck-held c = let l = in-pin (c .before .before) in omega arith
 
--- src/advance.rt:89:39
 array-read-struck-held : tie.Need-array-read-struck-held Inv-loop2 μ-loop2 Inv-loop μ-loop
 array-read-struck-held c = in-pin (c .before .before)
 
--- src/advance.rt:89:68
 array-read-struck-held-2 : tie.Need-array-read-struck-held-2 Inv-loop2 μ-loop2 Inv-loop μ-loop
 array-read-struck-held-2 c = in-pin (c .before .before)
 
--- src/advance.rt:89:27
 struck-held-requires : tie.Need-struck-held-requires Inv-loop2 μ-loop2 Inv-loop μ-loop
 struck-held-requires c κs = tt
 
--- src/advance.rt:89:17
 array-write-held : tie.Need-array-write-held Inv-loop2 μ-loop2 Inv-loop μ-loop
 array-write-held c = in-pin (c .before .before .before)
 
--- src/advance.rt:90:28
 struck-level-requires : tie.Need-struck-level-requires Inv-loop2 μ-loop2 Inv-loop μ-loop
 struck-level-requires c κs = tt
 
--- src/advance.rt:90:17
 array-write-level : tie.Need-array-write-level Inv-loop2 μ-loop2 Inv-loop μ-loop
 array-write-level c = in-pin (c .before .before .before .before)
 
--- src/advance.rt:92:13
 add-m : tie.Need-add-m Inv-loop2 μ-loop2 Inv-loop μ-loop
 add-m c = omega arith
 
--- src/advance.rt:83:9
 loop2-less : tie.Need-loop2-less Inv-loop2 μ-loop2 Inv-loop μ-loop
 loop2-less c = omega arith
 
--- src/advance.rt:83:9
 loop2-again : tie.Need-loop2-again Inv-loop2 μ-loop2 Inv-loop μ-loop
 unfolding strike
 loop2-again c =
@@ -181,11 +160,9 @@ loop2-again c =
           (c .if2 .came),
     )
 
--- src/advance.rt:72:5
 loop-less : tie.Need-loop-less Inv-loop2 μ-loop2 Inv-loop μ-loop
 loop-less c = left-less _ _ _ _ (goes (to (c .before)))
 
--- src/advance.rt:72:5
 loop-again : tie.Need-loop-again Inv-loop2 μ-loop2 Inv-loop μ-loop
 loop-again c =
     let b = c .before in
@@ -201,7 +178,6 @@ loop-again c =
           ∙ round (t .s) (t .t3) (t .n) (a .loop .at) (x .next .result) g (t .e),
     )
 
--- src/advance.rt:64:1
 returns-2 : tie.Need-returns-2 Inv-loop2 μ-loop2 Inv-loop μ-loop
 returns-2 c =
     let a = c .before in

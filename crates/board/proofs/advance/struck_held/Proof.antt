@@ -8,27 +8,22 @@ use Rattle.board.proofs.advance.struck_held.Reads as reads
 use Rattle.board.proofs.advance.struck_held.Lts as lts
 use Rattle.entries.proofs.Low.held_after.Reads as held-after-reads
 
--- src/advance.rt:55:9
 held-after-requires : tie.Need-held-after-requires
 held-after-requires c κs = search needs
 
--- src/advance.rt:57:9
 held-after-requires-2 : tie.Need-held-after-requires-2
 held-after-requires-2 c κs = search needs
 
--- src/advance.rt:57:9
 returns : tie.Need-returns
 unfolding struckHeld
 returns c =
     let a = c .before .before .before .args in
     rw (c .before .if1 .taken) (c .held-after2 .ensures ∙ ap (heldAfter (a .low) 1 (a .before)) (c .before .before .held-after .ensures))
 
--- src/advance.rt:52:1
 returns-2 : tie.Need-returns-2
 unfolding struckHeld
 returns-2 c = rw (c .before .if1 .left, c .if2 .taken) (c .before .before .held-after .ensures)
 
--- src/advance.rt:52:1
 returns-3 : tie.Need-returns-3
 unfolding struckHeld
 returns-3 c = rw (c .before .if1 .left, c .if2 .left)

@@ -4,17 +4,14 @@ use Rattle.board.proofs.advance.struck_level.Tie as tie
 use Rattle.board.proofs.advance.struck_level.Reads as reads
 use Rattle.board.proofs.advance.struck_level.Lts as lts
 
--- src/advance.rt:46:9
 returns : tie.Need-returns
 unfolding struckLevel
 returns c = rw (c .if1 .taken)
 
--- src/advance.rt:42:1
 returns-2 : tie.Need-returns-2
 unfolding struckLevel
 returns-2 c = rw (c .before .if1 .left, c .if2 .taken)
 
--- src/advance.rt:42:1
 returns-3 : tie.Need-returns-3
 unfolding struckLevel
 returns-3 c = rw (c .before .if1 .left, c .if2 .left)

@@ -9,19 +9,15 @@ use Rattle.board.proofs.tick.pulsed.Lts as lts
 use Rattle.board.proofs.tick.raised.Reads as raised-reads
 use Rattle.controller.proofs.Controller.rewired.Reads as rewired-reads
 
--- src/tick.rt:27:15
 raised-requires : tie.Need-raised-requires
 raised-requires c κs = search needs
 
--- src/tick.rt:27:5
 rewired-requires : tie.Need-rewired-requires
 rewired-requires c κs = search needs
 
--- src/tick.rt:27:5
 rewired-requires-2 : tie.Need-rewired-requires-2
 rewired-requires-2 c κs = search needs
 
--- src/tick.rt:24:1
 returns : tie.Need-returns
 returns c =
     let d = c .before .before .before .args .c in

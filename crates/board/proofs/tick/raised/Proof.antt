@@ -8,18 +8,15 @@ use Rattle.board.proofs.tick.raised.Tie as tie
 use Rattle.board.proofs.tick.raised.Reads as reads
 use Rattle.board.proofs.tick.raised.Lts as lts
 
--- src/tick.rt:16:9
 returns : tie.Need-returns
 returns c =
     let l = c .before .args .levels in
     let long : length l ≡ 24 = search needs in
     sym (set-out l (c .before .args .pin) 1 (omega arith))
 
--- src/tick.rt:19:5
 array-write-high : tie.Need-array-write-high
 array-write-high c = search needs
 
--- src/tick.rt:12:1
 returns-2 : tie.Need-returns-2
 returns-2 c = search needs
 

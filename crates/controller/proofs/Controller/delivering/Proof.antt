@@ -22,23 +22,18 @@ sized s =
     let held : length (e .held) ≡ 24 = search needs in
     record { low = low; destination = destination; level = level; held = held }
 
--- src/steps.rt:98:13
 first-eligible-requires : tie.Need-first-eligible-requires
 first-eligible-requires c κs = search needs
 
--- src/steps.rt:100:27
 cast-given : tie.Need-cast-given
 cast-given c = search needs
 
--- src/steps.rt:100:13
 given-requires : tie.Need-given-requires
 given-requires c κs = search needs
 
--- src/steps.rt:105:9
 taken-requires : tie.Need-taken-requires
 taken-requires c κs = search needs
 
--- src/steps.rt:94:5
 returns : tie.Need-returns
 unfolding deliveringOf
 returns c =

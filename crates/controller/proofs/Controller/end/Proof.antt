@@ -9,24 +9,19 @@ use Rattle.controller.proofs.Controller.ending.Reads as ending-reads
 use Rattle.controller.proofs.Controller.refused.Reads as refused-reads
 use Rattle.controller.proofs.Controller.well_formed.Reads as well-formed-reads
 
--- src/steps.rt:74:12
 well-formed-requires : tie.Need-well-formed-requires
 well-formed-requires c κs = search needs
 
--- src/steps.rt:76:29
 ending-requires : tie.Need-ending-requires
 ending-requires c κs = search needs
 
--- src/steps.rt:80:13
 refused-requires : tie.Need-refused-requires
 refused-requires c κs = search needs
 
--- src/steps.rt:71:5
 returns : tie.Need-returns
 unfolding endOf
 returns c = rw (sym (c .before .before .well-formed .ensures) ∙ c .before .if1 .taken, c .ending .ensures)
 
--- src/steps.rt:71:5
 returns-2 : tie.Need-returns-2
 unfolding endOf
 returns-2 c = rw (sym (c .before .before .well-formed .ensures) ∙ c .before .if1 .left) (c .refused .ensures)

@@ -11,37 +11,29 @@ use Rattle.controller.proofs.Controller.rewired.Reads as rewired-reads
 use Rattle.controller.proofs.Controller.well_formed.Reads as well-formed-reads
 use Rattle.entries.proofs.Entries.levels_ok.Reads as levels-ok-reads
 
--- src/steps.rt:28:13
 well-formed-requires : tie.Need-well-formed-requires
 well-formed-requires c κs = search needs
 
--- src/steps.rt:29:13
 refused-requires : tie.Need-refused-requires
 refused-requires c κs = search needs
 
--- src/steps.rt:29:13
 returns : tie.Need-returns
 unfolding wiresOf
 returns c = rw (sym (c .before .before .well-formed .ensures) ∙ not-true _ (c .before .if1 .taken)) (c .refused .ensures)
 
--- src/steps.rt:31:13
 levels-ok-requires : tie.Need-levels-ok-requires
 levels-ok-requires c κs = search needs
 
--- src/steps.rt:32:13
 refused-requires-2 : tie.Need-refused-requires-2
 refused-requires-2 c κs = search needs
 
--- src/steps.rt:32:13
 returns-2 : tie.Need-returns-2
 unfolding wiresOf
 returns-2 c = rw (sym (c .before .before .before .before .well-formed .ensures) ∙ not-false _ (c .before .before .before .if1 .left), sym (c .before .before .levels-ok .ensures) ∙ not-true _ (c .before .if2 .taken)) (c .refused2 .ensures)
 
--- src/steps.rt:35:25
 rewired-requires : tie.Need-rewired-requires
 rewired-requires c κs = search needs
 
--- src/steps.rt:25:5
 returns-3 : tie.Need-returns-3
 unfolding wiresOf
 returns-3 c = rw (sym (c .before .before .before .before .well-formed .ensures) ∙ not-false _ (c .before .before .before .if1 .left), sym (c .before .before .levels-ok .ensures) ∙ not-false _ (c .before .if2 .left), c .rewired .ensures)

@@ -12,7 +12,6 @@ use Rattle.entries.proofs.Entries.low_written.Lts as lts
 use Rattle.entries.proofs.Low.is_level.Reads as is-level-reads
 use Rattle.entries.proofs.Low.written.Reads as written-reads
 
--- src/table.rt:245:13
 returns : tie.Need-returns
 returns c =
     let e = c .before .args .self in
@@ -22,35 +21,27 @@ returns c =
     let h : length (e .held) ≡ 24 = search needs in
     sym (low-written-above e (record { low = a; destination = b; level = d; held = h }) (c .before .args .n) (c .if1 .taken) (c .before .args .value))
 
--- src/table.rt:249:24
 mul-t10 : tie.Need-mul-t10
 mul-t10 c = search needs
 
--- src/table.rt:249:24
 array-read-t13 : tie.Need-array-read-t13
 array-read-t13 c = search needs
 
--- src/table.rt:249:13
 written-requires : tie.Need-written-requires
 written-requires c κs = search needs
 
--- src/table.rt:250:9
 mul-low : tie.Need-mul-low
 mul-low c = search needs
 
--- src/table.rt:250:9
 array-write-low : tie.Need-array-write-low
 array-write-low c = search needs
 
--- src/table.rt:251:12
 is-level-requires : tie.Need-is-level-requires
 is-level-requires c κs = search needs
 
--- src/table.rt:252:13
 array-write-held : tie.Need-array-write-held
 array-write-held c = search needs
 
--- src/table.rt:241:5
 returns-2 : tie.Need-returns-2
 unfolding lowWritten
 returns-2 c =

@@ -5,7 +5,6 @@ use Rattle.entries.proofs.Low.written.Tie as tie
 use Rattle.entries.proofs.Low.written.Reads as reads
 use Rattle.entries.proofs.Low.written.Lts as lts
 
--- src/word.rt:101:5
 returns : tie.Need-returns
 unfolding written writable
 returns c = keeps (c .before .args .self .0) (c .before .args .value)

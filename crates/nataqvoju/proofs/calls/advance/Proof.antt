@@ -22,15 +22,12 @@ formed s e =
     let held : length (b .controller .entries .held) ≡ 24 = search needs in
     formed-in b e (record { low = low; destination = destination; level = level; held = held })
 
--- src/calls.rt:68:9
 advancing-requires : tie.Need-advancing-requires
 advancing-requires c κs = search needs
 
--- src/calls.rt:68:5
 out-requires : tie.Need-out-requires
 out-requires c κs = search needs
 
--- src/calls.rt:65:1
 returns : tie.Need-returns
 returns c w =
     let s = c .before .before in

@@ -8,15 +8,12 @@ use Rattle.nataqvoju.proofs.calls.deliver.Lts as lts
 use Rattle.board.proofs.Board.delivering.Reads as delivering-reads
 use Rattle.nataqvoju.proofs.calls.out.Reads as out-reads
 
--- src/calls.rt:73:9
 delivering-requires : tie.Need-delivering-requires
 delivering-requires c κs = search needs
 
--- src/calls.rt:73:5
 out-requires : tie.Need-out-requires
 out-requires c κs = search needs
 
--- src/calls.rt:70:1
 returns : tie.Need-returns
 returns c = c .out .ensures ∙ ap outOf (c .before .delivering .ensures)
 

@@ -8,15 +8,12 @@ use Rattle.nataqvoju.proofs.calls.end.Lts as lts
 use Rattle.board.proofs.Board.ending.Reads as ending-reads
 use Rattle.nataqvoju.proofs.calls.out.Reads as out-reads
 
--- src/calls.rt:61:9
 ending-requires : tie.Need-ending-requires
 ending-requires c κs = search needs
 
--- src/calls.rt:61:5
 out-requires : tie.Need-out-requires
 out-requires c κs = search needs
 
--- src/calls.rt:58:1
 returns : tie.Need-returns
 returns c = c .out .ensures ∙ ap outOf (c .before .ending .ensures)
 

@@ -5,11 +5,9 @@ use Rattle.nataqvoju.proofs.calls.out.Reads as reads
 use Rattle.nataqvoju.proofs.calls.out.Lts as lts
 use Rattle.answers.proofs.Answer.numbers.Reads as numbers-reads
 
--- src/calls.rt:24:18
 numbers-requires : tie.Need-numbers-requires
 numbers-requires c κs = search needs
 
--- src/calls.rt:17:1
 returns : tie.Need-returns
 returns c = cc
 

@@ -9,15 +9,12 @@ use Rattle.nataqvoju.proofs.calls.read.Lts as lts
 use Rattle.answers.proofs.Answer.numbers.Reads as numbers-reads
 use Rattle.board.proofs.Board.reading.Reads as reading-reads
 
--- src/calls.rt:41:16
 reading-requires : tie.Need-reading-requires
 reading-requires c κs = search needs
 
--- src/calls.rt:43:5
 numbers-requires : tie.Need-numbers-requires
 numbers-requires c κs = search needs
 
--- src/calls.rt:38:1
 returns : tie.Need-returns
 returns c = c .numbers .ensures ∙ ap (λ (t : Turn). numbersOf (t .answer)) (c .before .reading .ensures)
 

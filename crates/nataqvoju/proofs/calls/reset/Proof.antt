@@ -6,15 +6,12 @@ use Rattle.nataqvoju.proofs.calls.reset.Lts as lts
 use Rattle.answers.proofs.Answer.numbers.Reads as numbers-reads
 use Rattle.board.proofs.Board.reset.Reads as reset-reads
 
--- src/calls.rt:32:16
 reset-requires : tie.Need-reset-requires
 reset-requires c κs = search needs
 
--- src/calls.rt:33:18
 numbers-requires : tie.Need-numbers-requires
 numbers-requires c κs = search needs
 
--- src/calls.rt:28:1
 returns : tie.Need-returns
 returns c = cc
 

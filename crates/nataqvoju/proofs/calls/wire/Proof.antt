@@ -22,15 +22,12 @@ formed s e =
     let held : length (b .controller .entries .held) ≡ 24 = search needs in
     formed-in b e (record { low = low; destination = destination; level = level; held = held })
 
--- src/calls.rt:56:9
 wiring-requires : tie.Need-wiring-requires
 wiring-requires c κs = search needs
 
--- src/calls.rt:56:5
 out-requires : tie.Need-out-requires
 out-requires c κs = search needs
 
--- src/calls.rt:53:1
 returns : tie.Need-returns
 returns c w =
     let s = c .before .before in

@@ -8,15 +8,12 @@ use Rattle.nataqvoju.proofs.calls.write.Lts as lts
 use Rattle.board.proofs.Board.writing.Reads as writing-reads
 use Rattle.nataqvoju.proofs.calls.out.Reads as out-reads
 
--- src/calls.rt:49:9
 writing-requires : tie.Need-writing-requires
 writing-requires c κs = search needs
 
--- src/calls.rt:49:5
 out-requires : tie.Need-out-requires
 out-requires c κs = search needs
 
--- src/calls.rt:46:1
 returns : tie.Need-returns
 returns c = c .out .ensures ∙ ap outOf (c .before .writing .ensures)
 

@@ -5,7 +5,6 @@ use Rattle.timer.proofs.Timer.holds.Tie as tie
 use Rattle.timer.proofs.Timer.holds.Reads as reads
 use Rattle.timer.proofs.Timer.holds.Lts as lts
 
--- src/lib.rt:234:5
 returns : tie.Need-returns
 unfolding holding
 returns c = refl
