@@ -20,10 +20,12 @@ use Rattle.entries.proofs.Pulse.{wired-one, wired-same}
 use Rattle.entries.proofs.One.{one-is, pulsed-one}
 use Rattle.controller.specs.declared.Controller.{Controller}
 use Rattle.controller.specs.State.{withEntries}
-use Rattle.controller.specs.Steps.{rewired, rewiredAt}
+use Rattle.controller.specs.Steps.{rewired}
+use Rattle.controller.specs.Inner.{rewiredAt}
 use Rattle.timers.specs.declared.Timers.{Timers}
 use Rattle.timers.specs.State.{three, isEnabled}
-use Rattle.timers.specs.Tick.{matchesOf, firedOf, drivesOf, pulsesOf, raisesOf, routeOf, ranOf, ticks as timersTicks, firesIn as timersFiresIn, first}
+use Rattle.timers.specs.Tick.{matchesOf, firedOf, drivesOf, pulsesOf, routeOf, ticks as timersTicks, firesIn as timersFiresIn}
+use Rattle.timers.specs.Inner.{raisesOf, ranOf, first}
 use Rattle.timer.specs.State.{flag}
 use Rattle.timers.proofs.Each.{turns-enabled}
 use Rattle.timers.proofs.Formed.{route-pin}

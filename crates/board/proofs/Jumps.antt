@@ -14,7 +14,8 @@ use Rattle.answers.specs.declared.Answer.the-variants as answer
 use Rattle.controller.specs.declared.Controller.{Controller}
 use Rattle.timers.specs.declared.Timers.{Timers}
 use Rattle.timers.specs.declared.Ran.{Ran}
-use Rattle.timers.specs.Tick.{ticks as timersTicks, ranOf}
+use Rattle.timers.specs.Tick.{ticks as timersTicks}
+use Rattle.timers.specs.Inner.{ranOf}
 use Rattle.timers.proofs.Turns.{ran-timers, ran-fired}
 use Rattle.board.specs.declared.Board.{Board}
 use Rattle.board.specs.State.{board, turn}

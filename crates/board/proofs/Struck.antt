@@ -14,7 +14,8 @@ use borrow.Author.Tests.{ne-eqb, ltb-false}
 use Rattle.entries.specs.declared.Entries.{Entries}
 use Rattle.entries.specs.Table.{lowAt, levelAt, heldAt, withHeld, withLevel}
 use Rattle.timers.specs.declared.Timers.{Timers}
-use Rattle.timers.specs.Tick.{pulsesOf, raisesOf, routeOf}
+use Rattle.timers.specs.Tick.{pulsesOf, routeOf}
+use Rattle.timers.specs.Inner.{raisesOf}
 use Rattle.board.specs.Next.{dueOf}
 use Rattle.board.specs.At.{struckLevel, struckHeld, strike, strikes, struck}
 use Rattle.board.proofs.Jumps.{Next, not-due}

@@ -6,7 +6,8 @@ use mathlib.Core.Logic.{_⊎_, inl, inr}
 use native.Mathlib.Omega.{arith}
 use native.Mathlib.Nat.{add-zero, add-suc, add-assoc}
 use Rattle.timers.specs.declared.Timers.{Timers}
-use Rattle.timers.specs.Tick.{tick as timersTick, ticks as timersTicks, firesIn as timersFiresIn, firings as timersFirings, first}
+use Rattle.timers.specs.Tick.{tick as timersTick, ticks as timersTicks, firesIn as timersFiresIn, firings as timersFirings}
+use Rattle.timers.specs.Inner.{first}
 use Rattle.timers.proofs.Each.{ticks-zero, ticks-suc}
 use Rattle.timers.proofs.Turns.{firings-zero, firings-suc, first-zero}
 use Rattle.timers.proofs.First.{first-kept, none-between, fires-first, first-fires}

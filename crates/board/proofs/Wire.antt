@@ -12,7 +12,8 @@ use Rattle.entries.specs.Table.{wired}
 use Rattle.entries.proofs.Pulse.{wired-one}
 use Rattle.controller.specs.declared.Controller.{Controller}
 use Rattle.controller.specs.State.{withEntries}
-use Rattle.controller.specs.Steps.{rewired, rewiredAt}
+use Rattle.controller.specs.Steps.{rewired}
+use Rattle.controller.specs.Inner.{rewiredAt}
 use Rattle.timers.specs.declared.Timers.{Timers}
 use Rattle.timers.specs.Tick.{drivesOf}
 use Rattle.board.specs.declared.Board.{Board}

@@ -12,10 +12,11 @@ use Rattle.entries.specs.declared.Entries.{Entries}
 use Rattle.entries.specs.Pin.{heldAfter}
 use Rattle.entries.specs.Table.{lowAt, levelAt, heldAt, withHeld, withLevel}
 use Rattle.controller.specs.State.{withEntries}
-use Rattle.controller.specs.Steps.{rewiredAt}
+use Rattle.controller.specs.Inner.{rewiredAt}
 use Rattle.timers.specs.declared.Timers.{Timers}
 use Rattle.timers.specs.declared.Ran.{Ran}
-use Rattle.timers.specs.Tick.{drivesOf, pulsesOf, raisesOf, routeOf, ranOf}
+use Rattle.timers.specs.Tick.{drivesOf, pulsesOf, routeOf}
+use Rattle.timers.specs.Inner.{raisesOf, ranOf}
 use Rattle.board.specs.declared.Board.{Board}
 use Rattle.board.specs.declared.Turn.{Turn}
 use Rattle.board.specs.State.{board, turn, refused}

@@ -1,6 +1,7 @@
 // Wires, end of interrupt, delivery.
 ghost use mathlib.Core.Path.{_≡_};
-ghost use Rattle.controller.specs.Steps.{rewired, rewiredAt, wiresOf, wireOf, afterEnd, endOf, deliveringOf, deliverOf};
+ghost use Rattle.controller.specs.Steps.{rewired, wiresOf, wireOf, afterEnd, endOf, deliveringOf, deliverOf};
+ghost use Rattle.controller.specs.Inner.{rewiredAt};
 use crate::Controller;
 use crate::Turn;
 use answers::Answer;

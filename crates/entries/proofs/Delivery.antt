@@ -14,7 +14,8 @@ use Rattle.pins.proofs.Bools.{clash, and-false, and-true}
 use Rattle.pins.proofs.First.{First, first-le, first-found, first-of, first-none, first-none-of}
 use Rattle.entries.specs.declared.Entries.{Entries}
 use Rattle.entries.specs.Word.{levelOf, remoteOf, maskedOf, modeOf, withRemote, written, shown}
-use Rattle.entries.specs.Pin.{asserted, eligible, takenWord, heldTaken}
+use Rattle.entries.specs.Pin.{asserted, eligible}
+use Rattle.entries.specs.Inner.{takenWord, heldTaken}
 use Rattle.entries.specs.Table.{lowAt, levelAt, heldAt, withLow, withHeld, eligibleAt, entriesOk, firstEligible, ended, taken, lowShown, lowWritten}
 use Rattle.entries.proofs.Sized.{Sized}
 use Rattle.entries.proofs.Formed.{level-with, level-written, pins-good}

@@ -11,8 +11,10 @@ use Rattle.pins.proofs.Fill.{getD-tab}
 use Rattle.pins.proofs.Store.{pins-cong}
 use Rattle.entries.specs.declared.Entries.{Entries}
 use Rattle.entries.specs.Word.{activeLowOf, levelOf, maskedOf}
-use Rattle.entries.specs.Pin.{asserted, takesEdges, makesEdge, heldAfter, heldBy}
-use Rattle.entries.specs.Table.{lowAt, levelAt, heldAt, edgePins, activeLows}
+use Rattle.entries.specs.Pin.{asserted, makesEdge, heldAfter}
+use Rattle.entries.specs.Inner.{takesEdges, heldBy}
+use Rattle.entries.specs.Table.{lowAt, levelAt, heldAt}
+use Rattle.entries.specs.Inner.{edgePins, activeLows}
 
 is-one : (b : Bool) → eqb (boolByte b) 1 ≡ b
 is-one true = refl

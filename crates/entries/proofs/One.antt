@@ -6,7 +6,8 @@ use lib.ListN.{set, length-set}
 use lib.Seq.{getD-set-same, set-getD, set-set}
 use Rattle.entries.specs.declared.Entries.{Entries}
 use Rattle.entries.specs.Pin.{heldAfter}
-use Rattle.entries.specs.Table.{lowAt, levelAt, heldAt, withHeld, withLevel, wired, wiredAt, pulsed}
+use Rattle.entries.specs.Table.{lowAt, levelAt, heldAt, withHeld, withLevel, wired, pulsed}
+use Rattle.entries.specs.Inner.{wiredAt}
 use Rattle.entries.proofs.Sized.{Sized}
 use Rattle.entries.proofs.Pulse.{wired-one}
 

@@ -16,7 +16,8 @@ use Rattle.pins.proofs.Fill.{getD-tab, length-tab}
 use Rattle.entries.specs.declared.Entries.{Entries}
 use Rattle.entries.specs.Word.{levelOf, maskedOf, activeLowOf}
 use Rattle.entries.specs.Pin.{asserted, makesEdge, heldAfter}
-use Rattle.entries.specs.Table.{lowAt, levelAt, heldAt, withHeld, withLevel, entriesOk, levelsOk, wired, wiredAt, pulsed}
+use Rattle.entries.specs.Table.{lowAt, levelAt, heldAt, withHeld, withLevel, entriesOk, levelsOk, wired, pulsed}
+use Rattle.entries.specs.Inner.{wiredAt}
 use Rattle.entries.proofs.Sized.{Sized, wired-sized}
 use Rattle.entries.proofs.Formed.{levels-at, levels-of, wired-ok}
 

@@ -9,7 +9,8 @@ use Rattle.pins.proofs.Fill.{length-tab}
 use Rattle.entries.specs.declared.Entries.{Entries}
 use Rattle.entries.specs.Word.{modeOf, maskedOf, levelOf, remoteOf, withRemote, written, shown}
 use Rattle.entries.specs.Pin.{heldAfter, asserted, eligible, endedWord}
-use Rattle.entries.specs.Table.{lowAt, destinationAt, levelAt, heldAt, withLow, withHeld, withLevel, wired, wiredAt, ended, taken, lowShown, lowWritten, highWritten, heldAfterWrite, destinationOf}
+use Rattle.entries.specs.Table.{lowAt, destinationAt, levelAt, heldAt, withLow, withHeld, withLevel, wired, ended, taken, lowShown, lowWritten, highWritten, heldAfterWrite, destinationOf}
+use Rattle.entries.specs.Inner.{wiredAt}
 
 pub record Sized (e : Entries) : Type 0 where
   pub low : length (e .low) ≡ 24

@@ -1,3 +1,4 @@
 pub mod Word
 pub mod Pin
 pub mod Table
+pub mod Inner

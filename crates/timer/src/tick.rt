@@ -1,6 +1,7 @@
 // One tick of a timer, and many ticks at once.
 ghost use mathlib.Core.Path.{_≡_};
-ghost use Rattle.timer.specs.Tick.{meets, firing, pulsing, raising, driving, holding};
+ghost use Rattle.timer.specs.Tick.{meets, firing, pulsing, driving};
+ghost use Rattle.timer.specs.Inner.{raising, holding};
 ghost use Rattle.timer.specs.Alone.{runOf};
 ghost use Rattle.timer.specs.Closed.{stride, firedTo, Ahead};
 use crate::Run;

@@ -17,7 +17,8 @@ use Rattle.timers.specs.declared.Ran.{Ran}
 use Rattle.timers.specs.State.{at, resetTimers}
 use Rattle.timers.specs.Formed.{wellFormed}
 use Rattle.timers.specs.Registers.{aligned, inside}
-use Rattle.timers.specs.Tick.{countedOf, matchesOf, firedOf, ticks, firings, ranOf, drivesOf, pulsesOf, routeOf}
+use Rattle.timers.specs.Tick.{countedOf, matchesOf, firedOf, ticks, firings, drivesOf, pulsesOf, routeOf}
+use Rattle.timers.specs.Inner.{ranOf}
 use Rattle.timers.specs.Call.{turn, readingOf, writingOf, readOf, writeOf, advanceOf}
 use Rattle.timers.proofs.Access.{write-done, advance-done, advancing-is}
 use Rattle.timers.proofs.Formed.{reset-formed, ticks-formed, read-timers, writing-formed}

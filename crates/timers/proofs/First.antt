@@ -10,7 +10,8 @@ use native.Mathlib.Decide.{ℕ-discrete}
 use lib.Dec.{eqb, eqb·suc-zero}
 use borrow.Author.Tests.{ne-eqb}
 use Rattle.timers.specs.declared.Timers.{Timers}
-use Rattle.timers.specs.Tick.{ticks, firesIn, first}
+use Rattle.timers.specs.Tick.{ticks, firesIn}
+use Rattle.timers.specs.Inner.{first}
 use Rattle.timers.proofs.Portions.{ticks-add}
 
 -- the first firing over two portions: of the first one, or else of the second one, that many ticks later

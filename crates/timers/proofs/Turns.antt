@@ -7,7 +7,8 @@ use lib.Dec.{eqb}
 use lib.ListN.{getD}
 use Rattle.timers.specs.declared.Timers.{Timers}
 use Rattle.timers.specs.State.{three, isEnabled}
-use Rattle.timers.specs.Tick.{countedOf, matchesOf, firedOf, turnedOf, upTo, tick, firesIn, ticks, firings, first, ranOf, drivesOf, pulsesOf, raisesOf, routeOf}
+use Rattle.timers.specs.Tick.{countedOf, matchesOf, firedOf, turnedOf, upTo, tick, firesIn, ticks, firings, drivesOf, pulsesOf, routeOf}
+use Rattle.timers.specs.Inner.{first, ranOf, raisesOf}
 use Rattle.timers.proofs.Three.{at-three}
 use Rattle.timers.proofs.Each.{by-turn}
 use Rattle.timers.proofs.Wires.{risenOf, fired-matches, counted-pulses, counted-raises, counted-route, counted-risen, counted-drives, fired-pulses, fired-raises, fired-route, fired-risen-kept, fired-drives-more}

@@ -8,11 +8,13 @@ use lib.Dec.{eqb, lit<}
 use borrow.Author.Tests.{ne-eqb}
 use Rattle.timer.specs.declared.Timer.{Timer}
 use Rattle.timer.specs.State.{flag}
-use Rattle.timer.specs.Tick.{meets, firing, pulsing, raising, driving, holding}
+use Rattle.timer.specs.Tick.{meets, firing, pulsing, driving}
+use Rattle.timer.specs.Inner.{raising, holding}
 use Rattle.timer.proofs.Wire.{risen, firing-route, firing-pulsing, firing-raising, firing-risen, pulsing-risen, driving-pin, driving-same, driving-fired, driving-more}
 use Rattle.timers.specs.declared.Timers.{Timers}
 use Rattle.timers.specs.State.{at, isEnabled, resetTimers}
-use Rattle.timers.specs.Tick.{countedOf, matchesOf, firedOf, drivesOf, drivenOf, pulsesOf, raisesOf, routeOf}
+use Rattle.timers.specs.Tick.{countedOf, matchesOf, firedOf, drivesOf, pulsesOf, routeOf}
+use Rattle.timers.specs.Inner.{drivenOf, raisesOf}
 use Rattle.timers.proofs.Each.{fired-counter, fired-enabled, fired-same, fired-other}
 
 -- timer m is edge type, or has its status set: its firing moves no wire but by a pulse

@@ -3,4 +3,5 @@ pub mod Formed
 pub mod Registers
 pub mod Tick
 pub mod Call
+pub mod Inner
 pub mod Sheet

@@ -8,7 +8,8 @@ ghost use Rattle.timer.specs.State.{flag};
 ghost use Rattle.timer.specs.Registers.{clearedOf};
 ghost use Rattle.timers.specs.State.{at, withTimer, resetTimers};
 ghost use Rattle.timers.specs.Formed.{wellFormed};
-ghost use Rattle.timers.specs.Registers.{timerRegister, timerPut};
+ghost use Rattle.timers.specs.Registers.{timerRegister};
+ghost use Rattle.timers.specs.Inner.{timerPut};
 use answers::Answer;
 pub use timer::Timer;
 

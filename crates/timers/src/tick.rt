@@ -1,6 +1,7 @@
 // One tick of the block in its pieces, the timers' part of the wire rule, and many ticks at once.
 ghost use mathlib.Core.Path.{_≡_};
-ghost use Rattle.timers.specs.Tick.{countedOf, matchesOf, firedOf, drivesOf, drivenOf, pulsesOf, raisesOf, routeOf, ranOf};
+ghost use Rattle.timers.specs.Tick.{countedOf, matchesOf, firedOf, drivesOf, pulsesOf, routeOf};
+ghost use Rattle.timers.specs.Inner.{drivenOf, raisesOf, ranOf};
 use crate::Ran;
 use crate::Timers;
 

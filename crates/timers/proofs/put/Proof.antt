@@ -1,5 +1,5 @@
 use borrow.Author.Tests.{not-true, not-false, ne-eqb}
-use Rattle.timers.specs.Registers.{timerPut}
+use Rattle.timers.specs.Inner.{timerPut}
 use borrow.Author.Needs.{needs}
 use Rattle.timers.proofs.put.Statement.{statement}
 use Rattle.timers.proofs.put.Tie as tie

@@ -6,7 +6,7 @@ use mir.Val.{boolByte}
 use borrow.Author.Tests.{lt-ltb, le-ltb, le-leb, lt-leb}
 use Rattle.answers.specs.declared.Answer.the-variants as answer
 use Rattle.controller.specs.declared.Controller.{Controller}
-use Rattle.controller.specs.Steps.{rewiredAt}
+use Rattle.controller.specs.Inner.{rewiredAt}
 use Rattle.board.specs.State.{board, turn}
 use Rattle.board.specs.At.{wiringAt}
 use borrow.Author.Needs.{needs}

@@ -6,7 +6,7 @@ use Rattle.pins.specs.Pins.{tab}
 use Rattle.pins.proofs.Fill.{fill-more, fill-all}
 use native.Mathlib.Omega.{arith}
 use Rattle.entries.specs.Word.{activeLowOf}
-use Rattle.entries.specs.Table.{activeLows}
+use Rattle.entries.specs.Inner.{activeLows}
 use Rattle.entries.proofs.Entries.active_lows.Statement.{statement}
 use Rattle.entries.proofs.Entries.active_lows.Tie as tie
 use Rattle.entries.proofs.Entries.active_lows.Reads as reads

@@ -6,8 +6,8 @@ use Rattle.pins.specs.Pins.{tab}
 use Rattle.pins.proofs.Fill.{fill-more, fill-all}
 use native.Mathlib.Omega.{arith}
 use mir.Val.{boolByte}
-use Rattle.entries.specs.Pin.{takesEdges}
-use Rattle.entries.specs.Table.{edgePins}
+use Rattle.entries.specs.Inner.{takesEdges}
+use Rattle.entries.specs.Inner.{edgePins}
 use Rattle.entries.proofs.Entries.edge_pins.Statement.{statement}
 use Rattle.entries.proofs.Entries.edge_pins.Tie as tie
 use Rattle.entries.proofs.Entries.edge_pins.Reads as reads

@@ -7,7 +7,7 @@ use lib.ListN.{getD}
 use Rattle.pins.specs.Pins.{allFrom}
 use Rattle.pins.proofs.Scan.{all-more}
 use Rattle.entries.specs.Word.{levelOf}
-use Rattle.entries.specs.Table.{edgesOk}
+use Rattle.entries.specs.Inner.{edgesOk}
 use native.Mathlib.Omega.{arith}
 use Rattle.entries.proofs.Entries.edges_ok.Statement.{statement}
 use Rattle.entries.proofs.Entries.edges_ok.Tie as tie

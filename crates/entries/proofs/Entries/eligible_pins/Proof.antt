@@ -9,7 +9,7 @@ use lib.ListN.{getD}
 use Rattle.pins.specs.Pins.{bitsFrom}
 use Rattle.pins.proofs.Digits.{bits-more}
 use Rattle.entries.specs.Pin.{eligible}
-use Rattle.entries.specs.Table.{eligiblePins}
+use Rattle.entries.specs.Inner.{eligiblePins}
 use native.Mathlib.Omega.{arith}
 use Rattle.entries.proofs.Entries.eligible_pins.Statement.{statement}
 use Rattle.entries.proofs.Entries.eligible_pins.Tie as tie

@@ -5,7 +5,7 @@ use borrow.Author.Needs.{needs}
 use lib.ListN.{length, set, drop, getD}
 use Rattle.pins.specs.Pins.{tab, pins}
 use Rattle.pins.proofs.Fill.{fill-more, fill-all, fill-here}
-use Rattle.entries.specs.Pin.{heldBy}
+use Rattle.entries.specs.Inner.{heldBy}
 use Rattle.entries.specs.Table.{withHeld, withLevel, wired}
 use Rattle.entries.proofs.Edges.{wired-by}
 use native.Mathlib.Omega.{arith}

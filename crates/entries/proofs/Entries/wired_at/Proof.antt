@@ -1,7 +1,7 @@
 use mathlib.Core.Path.{_≡_, sym}
 use lib.ListN.{length}
 use Rattle.entries.proofs.Sized.{wired-at-above}
-use Rattle.entries.specs.Table.{wiredAt}
+use Rattle.entries.specs.Inner.{wiredAt}
 use borrow.Author.Needs.{needs}
 use Rattle.entries.proofs.Entries.wired_at.Statement.{statement}
 use Rattle.entries.proofs.Entries.wired_at.Tie as tie

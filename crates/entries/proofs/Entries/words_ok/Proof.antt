@@ -6,7 +6,7 @@ use lib.ListN.{getD}
 use Rattle.pins.specs.Pins.{allFrom}
 use Rattle.pins.proofs.Scan.{all-more}
 use Rattle.entries.specs.Word.{wordOk}
-use Rattle.entries.specs.Table.{wordsOk}
+use Rattle.entries.specs.Inner.{wordsOk}
 use native.Mathlib.Omega.{arith}
 use Rattle.entries.proofs.Entries.words_ok.Statement.{statement}
 use Rattle.entries.proofs.Entries.words_ok.Tie as tie

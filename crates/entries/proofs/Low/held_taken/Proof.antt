@@ -1,5 +1,5 @@
 use mathlib.Core.Path.{sym, _∙_}
-use Rattle.entries.specs.Pin.{heldTaken}
+use Rattle.entries.specs.Inner.{heldTaken}
 use borrow.Author.Needs.{needs}
 use Rattle.entries.proofs.Low.held_taken.Statement.{statement}
 use Rattle.entries.proofs.Low.held_taken.Tie as tie

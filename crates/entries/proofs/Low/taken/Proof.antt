@@ -1,5 +1,5 @@
 use mathlib.Core.Path.{sym, _∙_}
-use Rattle.entries.specs.Pin.{takenWord}
+use Rattle.entries.specs.Inner.{takenWord}
 use borrow.Author.Needs.{needs}
 use Rattle.entries.proofs.Low.taken.Statement.{statement}
 use Rattle.entries.proofs.Low.taken.Tie as tie

@@ -1,4 +1,4 @@
-use Rattle.entries.specs.Pin.{takesEdges}
+use Rattle.entries.specs.Inner.{takesEdges}
 use borrow.Author.Needs.{needs}
 use Rattle.entries.proofs.Low.takes_edges.Statement.{statement}
 use Rattle.entries.proofs.Low.takes_edges.Tie as tie

@@ -1,4 +1,4 @@
-use Rattle.entries.specs.Pin.{heldBy}
+use Rattle.entries.specs.Inner.{heldBy}
 use Rattle.entries.proofs.pin.held_by.Statement.{statement}
 use Rattle.entries.proofs.pin.held_by.Tie as tie
 use Rattle.entries.proofs.pin.held_by.Reads as reads

@@ -1,5 +1,5 @@
 use mathlib.Core.Path.{refl}
-use Rattle.timer.specs.Tick.{holding}
+use Rattle.timer.specs.Inner.{holding}
 use Rattle.timer.proofs.Timer.holds.Statement.{statement}
 use Rattle.timer.proofs.Timer.holds.Tie as tie
 use Rattle.timer.proofs.Timer.holds.Reads as reads

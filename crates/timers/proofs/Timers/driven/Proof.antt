@@ -1,9 +1,9 @@
 use mathlib.Core.Path.{sym, ap, _∙_}
 use mathlib.Core.Bool.{Bool, _&&_}
 use Rattle.timer.specs.declared.Timer.{Timer}
-use Rattle.timer.specs.Tick.{holding}
+use Rattle.timer.specs.Inner.{holding}
 use Rattle.timers.specs.State.{isEnabled}
-use Rattle.timers.specs.Tick.{drivenOf}
+use Rattle.timers.specs.Inner.{drivenOf}
 use borrow.Author.Needs.{needs}
 use Rattle.timers.proofs.Timers.driven.Statement.{statement}
 use Rattle.timers.proofs.Timers.driven.Tie as tie
