@@ -78,20 +78,12 @@ module _ (b : Board) (z : Formed b) where
   unfolding turnOf
   keeps c = rw (formed-out b z) (served-keeps c)
 
--- a refused board is the one that came in
-pub unformed : (b : Board) (c : Call) → wellFormed b ≡ false → turnOf b c ≡ refused b refusal.State
-unfolding turnOf
-unformed b c e = rw e
-
 pub served : (b : Board) (c : Call) → wellFormed b ≡ true → turnOf b c ≡ servedOf b c
 unfolding turnOf
 served b c e = rw e
 
 pub step-formed : (b : Board) (c : Call) → Sized b → wellFormed b ≡ true → wellFormed (turnOf b c .board) ≡ true
 step-formed b c s e = formed-out (turnOf b c .board) (keeps b (formed-in b e s) c)
-
-pub step-sized : (b : Board) (c : Call) → Sized b → wellFormed b ≡ true → Sized (turnOf b c .board)
-step-sized b c s e = keeps b (formed-in b e s) c .sized
 
 -- reset
 pub reset-sized : Sized resetBoard

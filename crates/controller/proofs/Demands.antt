@@ -20,7 +20,7 @@ use Rattle.answers.proofs.Refused.{answerNumber, refused-bare, one-result}
 use Rattle.pins.proofs.Bools.{not-true-false}
 use Rattle.entries.specs.declared.Entries.{Entries}
 use Rattle.entries.specs.Word.{levelOf}
-use Rattle.entries.specs.Table.{levelsOk, firstEligible, eligibleAt, heldAt, given, taken, lowShown, lowWritten, highWritten}
+use Rattle.entries.specs.Table.{firstEligible, eligibleAt, heldAt, given, taken, lowShown, lowWritten, highWritten}
 use Rattle.entries.proofs.Sized.{Sized}
 use Rattle.entries.proofs.Pulse.{wired-keeps}
 use Rattle.entries.proofs.Delivery.{Lowest, first-le-24, lowest-found, lowest-of, none-eligible, none-eligible-of, ended-held, taken-held, low-written-held-other, low-written-held, taken-held-own, low-written-held-dropped, held-edge, bit-12}
@@ -28,8 +28,8 @@ use Rattle.controller.specs.declared.Controller.{Controller}
 use Rattle.controller.specs.declared.Turn.{Turn}
 use Rattle.controller.specs.State.{withId, withIndex, withEntries, wellFormed, turn, refused, tested}
 use Rattle.controller.specs.Window.{dataRead, dataWritten, readingOf, writingOf, readOf, writeOf}
-use Rattle.controller.specs.Steps.{rewired, wireOf, wiresOf, afterEnd, endOf, deliveringOf, deliverOf}
-use Rattle.controller.specs.Calls.{Call, read, write, wire, wires, end, deliver, turnOf, testsOf}
+use Rattle.controller.specs.Steps.{rewired, wireOf, afterEnd, endOf, deliveringOf, deliverOf}
+use Rattle.controller.specs.Calls.{Call, read, write, wire, end, deliver, turnOf, testsOf}
 use Rattle.controller.proofs.Formed.{formed, reading-same}
 
 -- ---- refusals
@@ -86,14 +86,13 @@ module _ (c : Controller) where
       go false = done c answer.Nothing refl
 
   decided : (k : Call) → DecidedTurn c (testsOf c k) (turnOf c k)
-  unfolding turnOf testsOf readOf writeOf wireOf wiresOf endOf deliverOf numberOf numbersOf
+  unfolding turnOf testsOf readOf writeOf wireOf endOf deliverOf numberOf numbersOf
   decided (read w o) = tested-decided _ (readingOf c w o) (reading-decided w o)
   decided (write w o v) = tested-decided _ (writingOf c w o v) (writing-decided w o v)
   decided (wire p l) =
       tested-decided _ _
       (then 3 _ refusal.Pin _ (ltb p 24) refl
       (then 4 [] refusal.Level _ (leb l 1) refl (done (rewired c (set (c .entries .level) p l)) answer.Done refl)))
-  decided (wires l) = tested-decided _ _ (then 4 [] refusal.Level _ (levelsOk l) refl (done (rewired c l) answer.Done refl))
   decided (end v) = tested-decided [] _ (done (afterEnd c v) answer.Done refl)
   decided deliver = tested-decided [] (deliveringOf c) delivering-decided
 
@@ -240,7 +239,7 @@ module _ (c : Controller) (z : Sized (c .entries)) (p : ℕ) (l : p < 24) (h : h
       go false false x false false y = h
 
   pub held-kept : (k : Call) → (Loses c p k → ⊥) → heldAt (turnOf c k .controller .entries) p ≡ 1
-  unfolding turnOf readOf writeOf writingOf wireOf wiresOf endOf deliverOf deliveringOf
+  unfolding turnOf readOf writeOf writingOf wireOf endOf deliverOf deliveringOf
   held-kept (read w o) f = go (wellFormed c)
     where
       go : (b : Bool) → heldAt (cond b (readingOf c w o) (refused c refusal.State) .controller .entries) p ≡ 1
@@ -267,12 +266,6 @@ module _ (c : Controller) (z : Sized (c .entries)) (p : ℕ) (l : p < 24) (h : h
       go true true false = h
       go true false d = h
       go false a d = h
-  held-kept (wires x) f = go (wellFormed c) (levelsOk x)
-    where
-      go : (b a : Bool) → heldAt (cond b (cond a (turn (rewired c x) answer.Done) (refused c refusal.Level)) (refused c refusal.State) .controller .entries) p ≡ 1
-      go true true = wired-keeps (c .entries) x p l h
-      go true false = h
-      go false a = h
   held-kept (end v) f = go (wellFormed c)
     where
       go : (b : Bool) → heldAt (cond b (turn (afterEnd c v) answer.Done) (refused c refusal.State) .controller .entries) p ≡ 1

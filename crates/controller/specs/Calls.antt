@@ -4,18 +4,16 @@ use mathlib.Core.Bool.{not, _||_}
 use mathlib.Core.List.{List, [], _∷_}
 use lib.Dec.{leb, ltb, eqb}
 use Rattle.answers.specs.Order.{Test, test}
-use Rattle.entries.specs.Table.{levelsOk}
 use Rattle.controller.specs.declared.Controller.{Controller}
 use Rattle.controller.specs.declared.Turn.{Turn}
 use Rattle.controller.specs.State.{wellFormed}
 use Rattle.controller.specs.Window.{readOf, writeOf}
-use Rattle.controller.specs.Steps.{wireOf, wiresOf, endOf, deliverOf}
+use Rattle.controller.specs.Steps.{wireOf, endOf, deliverOf}
 
 pub data Call : Type 0 where
   read : (width offset : ℕ) → Call
   write : (width offset value : ℕ) → Call
   wire : (pin level : ℕ) → Call
-  wires : (levels : List ℕ) → Call
   end : (vector : ℕ) → Call
   deliver : Call
 
@@ -23,7 +21,6 @@ unfoldable pub turnOf : Controller → Call → Turn
 turnOf c (read width offset) = readOf c width offset
 turnOf c (write width offset value) = writeOf c width offset value
 turnOf c (wire pin level) = wireOf c pin level
-turnOf c (wires levels) = wiresOf c levels
 turnOf c (end vector) = endOf c vector
 turnOf c deliver = deliverOf c
 
@@ -41,6 +38,5 @@ unfoldable pub testsOf : Controller → Call → List Test
 testsOf c (read width offset) = formed c ∷ width4 width ∷ offsetKnown offset ∷ []
 testsOf c (write width offset value) = formed c ∷ width4 width ∷ offsetKnown offset ∷ test 4 (not (ltb value (2 ^ 32))) ∷ []
 testsOf c (wire pin level) = formed c ∷ test 3 (not (ltb pin 24)) ∷ test 4 (not (leb level 1)) ∷ []
-testsOf c (wires levels) = formed c ∷ test 4 (not (levelsOk levels)) ∷ []
 testsOf c (end vector) = formed c ∷ []
 testsOf c deliver = formed c ∷ []

@@ -11,7 +11,7 @@ use Rattle.entries.specs.Table.{entriesOk, levelsOk, firstEligible, wired, ende
 use Rattle.controller.specs.declared.Controller.{Controller}
 use Rattle.controller.specs.State.{resetController, wellFormed}
 use Rattle.controller.specs.Window.{dataRead, dataWritten, readingOf, writingOf, readOf, writeOf}
-use Rattle.controller.specs.Steps.{wireOf, wiresOf, endOf, deliveringOf, deliverOf}
+use Rattle.controller.specs.Steps.{wireOf, endOf, deliveringOf, deliverOf}
 use Rattle.controller.specs.Calls.{Call, read, write, wire, end, deliver, turnOf}
 
 -- what the calls answer, one after another
@@ -75,5 +75,5 @@ sheet =
     ∷ []
 
 pub bench : map (λ (l : Line). run resetController (l .calls)) sheet ≡ map (λ (l : Line). l .answers) sheet
-unfolding run sheet turnOf numberOf numbersOf tab firstFrom allFrom modeOf remoteOf levelOf maskedOf withRemote withoutRemote writable written shown wordOk asserted makesEdge heldAfter eligible endedWord pinOk entriesOk levelsOk firstEligible wired ended taken lowShown lowWritten wellFormed dataRead dataWritten readingOf writingOf readOf writeOf wireOf wiresOf endOf deliveringOf deliverOf
+unfolding run sheet turnOf numberOf numbersOf tab firstFrom allFrom modeOf remoteOf levelOf maskedOf withRemote withoutRemote writable written shown wordOk asserted makesEdge heldAfter eligible endedWord pinOk entriesOk levelsOk firstEligible wired ended taken lowShown lowWritten wellFormed dataRead dataWritten readingOf writingOf readOf writeOf wireOf endOf deliveringOf deliverOf
 bench = refl

@@ -6,7 +6,7 @@ use lib.Dec.{leb, ltb}
 use lib.ListN.{set}
 use Rattle.answers.specs.declared.Answer.the-variants as answer
 use Rattle.answers.specs.declared.Refusal.the-variants as refusal
-use Rattle.entries.specs.Table.{levelsOk, firstEligible, wired, ended, given, taken}
+use Rattle.entries.specs.Table.{firstEligible, wired, ended, given, taken}
 use Rattle.controller.specs.declared.Controller.{Controller}
 use Rattle.controller.specs.declared.Turn.{Turn}
 use Rattle.controller.specs.State.{withEntries, turn, refused, tested}
@@ -14,9 +14,6 @@ use Rattle.controller.specs.State.{withEntries, turn, refused, tested}
 -- all wires at once: one step, with an edge at every unmasked edge pin that went from not asserted to asserted
 abbrev pub rewired : Controller → List ℕ → Controller
 rewired c l = withEntries c (wired (c .entries) l)
-
-unfoldable pub wiresOf : Controller → List ℕ → Turn
-wiresOf c l = tested c (cond (levelsOk l) (turn (rewired c l) answer.Done) (refused c refusal.Level))
 
 -- a wire change tests 3, then 4
 unfoldable pub wireOf : Controller → ℕ → ℕ → Turn

@@ -1,6 +1,6 @@
 // Wires, end of interrupt, delivery.
 ghost use mathlib.Core.Path.{_≡_};
-ghost use Rattle.controller.specs.Steps.{rewired, wiresOf, wireOf, afterEnd, endOf, deliveringOf, deliverOf};
+ghost use Rattle.controller.specs.Steps.{rewired, wireOf, afterEnd, endOf, deliveringOf, deliverOf};
 ghost use Rattle.controller.specs.Inner.{rewiredAt};
 use crate::Controller;
 use crate::Turn;
@@ -13,6 +13,7 @@ impl Controller {
 
     pub const LAST_LEVEL: u64 = 1;
 
+    // All wires at once.
     pub fn rewired(self, levels: [u8; 24]) -> Controller
         ensures { λ r. ⌜ r ≡ rewired self levels ⌝ }
     {
@@ -30,22 +31,6 @@ impl Controller {
         let mut next = self;
         next.entries = entries.wired_at(n, level);
         next
-    }
-
-    // All wires at once.
-    pub fn wires(self, levels: [u8; 24]) -> Turn
-        ensures { λ r. ⌜ r ≡ wiresOf self levels ⌝ }
-    {
-        if !self.well_formed() {
-            return self.refused(Refusal::State);
-        }
-        if !Entries::levels_ok(levels) {
-            return self.refused(Refusal::Level);
-        }
-        Turn {
-            controller: self.rewired(levels),
-            answer: Answer::Done,
-        }
     }
 
     pub fn wire(self, pin: u64, level: u64) -> Turn

@@ -9,7 +9,7 @@ use Rattle.pins.proofs.Fill.{length-tab}
 use Rattle.entries.specs.declared.Entries.{Entries}
 use Rattle.entries.specs.Word.{modeOf, maskedOf, levelOf, remoteOf, withRemote, written, shown}
 use Rattle.entries.specs.Pin.{heldAfter, asserted, eligible, endedWord}
-use Rattle.entries.specs.Table.{lowAt, destinationAt, levelAt, heldAt, withLow, withHeld, withLevel, wired, ended, taken, lowShown, lowWritten, highWritten, heldAfterWrite, destinationOf}
+use Rattle.entries.specs.Table.{lowAt, levelAt, heldAt, withLow, withHeld, withLevel, wired, ended, taken, lowShown, lowWritten, highWritten, heldAfterWrite, destinationOf}
 use Rattle.entries.specs.Inner.{wiredAt}
 
 pub record Sized (e : Entries) : Type 0 where
@@ -55,9 +55,6 @@ module _ (e : Entries) (z : Sized e) where
 
     pub low-above : lowAt e n ≡ 0
     low-above = List·getD-eq-default (e .low) 0 (past (e .low) (z .low))
-
-    pub destination-above : destinationAt e n ≡ 0
-    destination-above = List·getD-eq-default (e .destination) 0 (past (e .destination) (z .destination))
 
     held-above : heldAt e n ≡ 0
     held-above = List·getD-eq-default (e .held) 0 (past (e .held) (z .held))

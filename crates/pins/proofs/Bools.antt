@@ -1,6 +1,6 @@
 -- Laws of Booleans.
 use mathlib.Core.Path.{_≡_, refl, sym, subst}
-use mathlib.Core.Bool.{Bool, true, false, not, cond, _&&_, _||_}
+use mathlib.Core.Bool.{Bool, true, false, not, _&&_, _||_}
 use lib.Dec.{T}
 
 pub clash : {A : Type 0} → true ≡ false → A
@@ -65,9 +65,3 @@ either false false e = clash e
 pub not-true-false : (a : Bool) → (a ≡ true → ⊥) → a ≡ false
 not-true-false true f = absurd (f refl)
 not-true-false false f = refl
-
-pub cond-true : {A : Type 0} (b : Bool) (x y : A) → b ≡ true → cond b x y ≡ x
-cond-true b x y e = rw e
-
-pub cond-false : {A : Type 0} (b : Bool) (x y : A) → b ≡ false → cond b x y ≡ y
-cond-false b x y e = rw e

@@ -27,24 +27,6 @@ module _ (p : ℕ → Bool) (n i : ℕ) where
       let s : n - i ≡ 0 = omega arith in
       rw s
 
-  pub all-next : i < n → p i ≡ true → allFrom p i (n - i) ≡ allFrom p (i + 1) (n - (i + 1))
-  unfolding allFrom
-  all-next h e =
-      let s : n - i ≡ suc (n - (i + 1)) = omega arith in
-      rw (s, e, add-one)
-
-  pub all-not : i < n → p i ≡ false → allFrom p i (n - i) ≡ false
-  unfolding allFrom
-  all-not h e =
-      let s : n - i ≡ suc (n - (i + 1)) = omega arith in
-      rw (s, e)
-
-  pub all-end : n ≤ i → allFrom p i (n - i) ≡ true
-  unfolding allFrom
-  all-end h =
-      let s : n - i ≡ 0 = omega arith in
-      rw s
-
 -- a loop that counts i up from 0 and keeps whether all so far held
 module _ (p : ℕ → Bool) where
   all-last : (at n : ℕ) → allFrom p at (suc n) ≡ allFrom p at n && p (at + n)
