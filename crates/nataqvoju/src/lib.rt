@@ -34,10 +34,10 @@ pub extern "C" fn nataqvoju_reset(b: &mut Board) -> Numbers
     o.numbers
 }
 
-// Nothing is stored: a read leaves the board.
+// A read leaves the board, so it is lent to be looked at only.
 #[no_mangle]
-pub extern "C" fn nataqvoju_read(b: &mut Board, window: u64, width: u64, offset: u64) -> Numbers
-    ensures { λ r. ⌜ Gives (turnOf (now (b .entry)) (call.Read window width offset)) (now (b .exit)) r ⌝ }
+pub extern "C" fn nataqvoju_read(b: &Board, window: u64, width: u64, offset: u64) -> Numbers
+    ensures { λ r. ⌜ Gives (turnOf (now (b .entry)) (call.Read window width offset)) (now (b .entry)) r ⌝ }
 {
     if formed(b) {
         let s = *b;
