@@ -134,4 +134,18 @@ mistakes! {
     LimitTooLow: "a log of 65,536 bytes is too long";
     LimitTooHigh: "a log of 65,537 bytes isn't too long";
     BigEndianTicks: "ticks are read big-endian";
+    // A reset.
+    ResetRefuses: "a reset refuses an ill-formed board with 5";
+    ResetMendsNothing: "a reset leaves an ill-formed board as it is";
+    ResetKeepsOutside: "a reset keeps the outside wires";
+    ResetKeepsEdges: "a reset keeps held edges";
+    ResetKeepsRunning: "a reset keeps the counter running";
+    ResetKeepsIndex: "a reset keeps the index";
+    ResetKeepsId: "a reset keeps the id";
+    ResetKeepsIrr: "a reset keeps remote IRR";
+    ResetKeepsDestination: "a reset keeps the destinations";
+    ResetUnmasks: "a reset leaves the entries unmasked";
+    ResetKeepsCounter: "a reset keeps the counter's number";
+    ResetKeepsPeriod: "a reset keeps the periods";
+    ResetZeroComparator: "a reset sets the comparators to 0";
 }
