@@ -78,6 +78,9 @@ mistakes! {
     // Timer registers.
     GlitchingWrite: "a configuration write is several steps";
     SilentEnable: "enabling and disabling the block makes no edge";
+    SilentDisable: "disabling the block makes no edge";
+    SilentFall: "a configuration write that drops a wire makes no edge";
+    SilentRoute: "moving a route makes no edge";
     SilentStatusClear: "clearing a status makes no edge";
     LateInterruptSilent: "turning an interrupt on later makes no edge";
     BitSixHidden: "bit 6 always reads 0";
@@ -109,6 +112,8 @@ mistakes! {
     EdgeSetsStatus: "a firing edge timer sets its status";
     OrderSwapped: "timers fire in the order 2, 1, 0";
     LevelsFirst: "within a tick, level timers fire before edge timers";
+    PulsesFirst: "within a tick, edge timers fire before level timers";
+    OneFiringPerTick: "only one timer fires in a tick";
     PulseByStart: "a pulse is judged by the wire at the advance's start";
     PulseByEnd: "a pulse is judged by the wire at the advance's end";
     EqualStartFires: "an advance that starts at a match fires";
