@@ -84,7 +84,8 @@ typedef struct {
 typedef struct {
     uint64_t value;      /* a done read's value */
     uint32_t number;     /* 0 done, or why the call is refused */
-    uint32_t delivered;  /* 1: a delivery step gave the pin, vector, destination and logical below */
+    uint32_t delivered;  /* 1: a delivery step gave the pin, vector, destination and logical below; its trigger mode:
+                            nataqvoju_is_level */
     uint32_t fired[3];   /* a done advance: how often each timer fired */
     uint8_t pin;
     uint8_t vector;

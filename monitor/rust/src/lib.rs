@@ -184,7 +184,7 @@ impl fmt::Display for Refusal {
 
 impl std::error::Error for Refusal {}
 
-/// What a delivery step gives.
+/// What a delivery step gives. The pin's trigger mode is [`Board::is_level`].
 #[derive(Clone, Copy, Debug, PartialEq, Eq, Hash)]
 pub struct Interrupt {
     /// The lowest eligible pin.
