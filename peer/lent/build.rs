@@ -1,4 +1,4 @@
-//! Links the static library `monitor`, which NATAQVOJU_LIB_DIR says where to find.
+//! Links the static library `nataqvoju`, which NATAQVOJU_LIB_DIR says where to find.
 
 use std::path::Path;
 
