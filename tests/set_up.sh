@@ -38,7 +38,7 @@ set_up() {
   local lacking
   PATH=$PATH:${HOME-}/.cargo/bin
   if missing rt; then
-    echo "check: rt is not on the path: install the Rattle kit, or add its folder bin to PATH" >&2
+    echo "check: rt is not on the path: install the Rattle kit, or add its bin to PATH" >&2
     return 1
   fi
   look

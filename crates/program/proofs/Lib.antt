@@ -1,3 +1,3 @@
-pub mod Text
-pub mod Order
-pub mod Loop
+mod Text
+mod Order
+mod Loop
