@@ -7,9 +7,9 @@ pub mod Ticks
 pub mod Jumps
 pub mod Struck
 pub mod At
+pub mod Served
 pub mod Keeps
 pub mod Runs
 pub mod Held
 pub mod Demands
 pub mod Leaves
-pub mod Served
