@@ -62,7 +62,7 @@ module _ (p : ℕ) (l : p < 24) where
       go true = wired-keeps (up .entries) w p l (wired-keeps (b .controller .entries) (set w (routeOf (b .timers) m) 1) p l h)
       go false = wired-keeps (b .controller .entries) w p l h
 
-  turned-held : (m : ℕ) (b : Board) → Held p b → Held p (turned m b)
+  pub turned-held : (m : ℕ) (b : Board) → Held p b → Held p (turned m b)
   unfolding turned
   turned-held m b h = go (matchesOf (b .timers) m)
     where
@@ -75,7 +75,7 @@ module _ (p : ℕ) (l : p < 24) where
   turns-held zero b h = h
   turns-held (suc m) b h = turned-held m (upTo m b) (turns-held m b h)
 
-  tick-held : (b : Board) → Held p b → Held p (tick b)
+  pub tick-held : (b : Board) → Held p b → Held p (tick b)
   unfolding tick
   tick-held b h = go (isEnabled (b .timers))
     where

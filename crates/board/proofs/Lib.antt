@@ -11,5 +11,7 @@ pub mod Served
 pub mod Keeps
 pub mod Runs
 pub mod Held
+pub mod Steps
+pub mod Gained
 pub mod Demands
 pub mod Leaves

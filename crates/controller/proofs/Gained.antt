@@ -1,0 +1,106 @@
+-- When a pin gains a held edge: after every step other than a low-word write, exactly if it is an unmasked edge pin that went from not
+-- asserted to asserted; after a low-word write, never.
+use mathlib.Core.Path.{_≡_, refl, sym, subst}
+use mathlib.Core.Bool.{Bool, true, false, cond, _||_}
+use Prim.Native.Nat.{ℕ, _+_, _-_, _*_, _/_, _%_, _^_, _<_}
+use native.Mathlib.Omega.{arith}
+use lib.Dec.{eqb, leb, ltb}
+use lib.ListN.{set}
+use borrow.Author.Tests.{lt-ltb, ltb-true, ltb-false, leb-false, eqb-true}
+use Rattle.answers.specs.declared.Answer.the-variants as answer
+use Rattle.answers.specs.declared.Refusal.the-variants as refusal
+use Rattle.entries.specs.declared.Entries.{Entries}
+use Rattle.entries.specs.Table.{firstEligible, heldAt, given, taken, lowWritten, highWritten}
+use Rattle.entries.proofs.Sized.{Sized}
+use Rattle.entries.proofs.Gained.{Exact, wired-exact, quiet-exact, ended-exact, taken-exact, low-written-none}
+use Rattle.controller.specs.declared.Controller.{Controller}
+use Rattle.controller.specs.State.{withId, withIndex, withEntries, turn, refused, wellFormed}
+use Rattle.controller.specs.Window.{dataWritten, readingOf, writingOf, readOf, writeOf}
+use Rattle.controller.specs.Steps.{rewired, wireOf, afterEnd, endOf, deliveringOf, deliverOf}
+use Rattle.controller.specs.Calls.{Call, read, write, wire, end, deliver, turnOf}
+use Rattle.controller.proofs.Formed.{reading-same}
+use Rattle.controller.proofs.Demands.{index-is, low-index}
+
+-- a write to some entry's low word, which isn't refused
+pub data LowWrite (c : Controller) : Call → Type 0 where
+  low-write : (w o v n : ℕ) → w ≡ 4 → o ≡ 0x10 → v < 2 ^ 32 → n < 24 → c .index ≡ 0x10 + 2 * n → LowWrite c (write w o v)
+
+entry-of : (i : ℕ) → i < 0x40 → (i - 0x10) / 2 < 24
+entry-of i l = omega arith
+
+module _ (c : Controller) (z : Sized (c .entries)) (p : ℕ) (l : p < 24) where
+  abbrev e : Entries
+  e = c .entries
+
+  same : Exact p e e
+  same = quiet-exact p e e (λ h. h) refl refl
+
+  data-exact : (v : ℕ) → ((n : ℕ) → n < 24 → c .index ≡ 0x10 + 2 * n → ⊥) → Exact p e (dataWritten c v .entries)
+  unfolding dataWritten
+  data-exact v f =
+      go (eqb (c .index) 0) (ltb (c .index) 0x10) refl (leb 0x40 (c .index)) refl (eqb ((c .index - 0x10) % 2) 0) refl
+    where
+      n : ℕ
+      n = (c .index - 0x10) / 2
+
+      go :
+          (a b : Bool) → ltb (c .index) 0x10 ≡ b → (d : Bool) → leb 0x40 (c .index) ≡ d → (m : Bool) → eqb ((c .index - 0x10) % 2) 0 ≡ m →
+          Exact p e (cond a (withId c (v / 2 ^ 24 % 16)) (cond b c (cond d c (withEntries c (cond m (lowWritten e n v) (highWritten e n v))))) .entries)
+      go true b x d y m u = same
+      go false true x d y m u = same
+      go false false x true y m u = same
+      go false false x false y true u =
+          absurd (f n (entry-of (c .index) (leb-false 0x40 (c .index) y)) (index-is (c .index) n (ltb-false (c .index) 0x10 x) (eqb-true ((c .index - 0x10) % 2) 0 u) refl))
+      go false false x false y false u = quiet-exact p e (highWritten e n v) (λ h. h) refl refl
+
+  -- every step other than a low-word write
+  pub step-exact : (k : Call) → (LowWrite c k → ⊥) → Exact p e (turnOf c k .controller .entries)
+  unfolding turnOf readOf writeOf writingOf wireOf endOf deliverOf deliveringOf
+  step-exact (read w o) f = go (wellFormed c)
+    where
+      go : (b : Bool) → Exact p e (cond b (readingOf c w o) (refused c refusal.State) .controller .entries)
+      go true = subst (λ (d : Controller). Exact p e (d .entries)) (sym (reading-same c w o)) same
+      go false = same
+  step-exact (write w o v) f = go (wellFormed c) (eqb w 4) refl (eqb o 0) (eqb o 0x10) refl (ltb v (2 ^ 32)) refl
+    where
+      go :
+          (b a : Bool) → eqb w 4 ≡ a → (x y : Bool) → eqb o 0x10 ≡ y → (s : Bool) → ltb v (2 ^ 32) ≡ s →
+          Exact p e (cond b (cond a (cond (x || y) (cond s (turn (cond x (withIndex c (v % 256)) (dataWritten c v)) answer.Done) (refused c refusal.Value)) (refused c refusal.Offset)) (refused c refusal.Width)) (refused c refusal.State) .controller .entries)
+      go true true q true y r true u = same
+      go true true q true y r false u = same
+      go true true q false true r true u = data-exact v (λ n i t. f (low-write w o v n (eqb-true w 4 q) (eqb-true o 0x10 r) (ltb-true v (2 ^ 32) u) i t))
+      go true true q false true r false u = same
+      go true true q false false r s u = same
+      go true false q x y r s u = same
+      go false a q x y r s u = same
+  step-exact (wire i x) f = go (wellFormed c) (ltb i 24) (leb x 1)
+    where
+      go :
+          (b a d : Bool) →
+          Exact p e (cond b (cond a (cond d (turn (rewired c (set (e .level) i x)) answer.Done) (refused c refusal.Level)) (refused c refusal.Pin)) (refused c refusal.State) .controller .entries)
+      go true true true = wired-exact e (set (e .level) i x) p l
+      go true true false = same
+      go true false d = same
+      go false a d = same
+  step-exact (end v) f = go (wellFormed c)
+    where
+      go : (b : Bool) → Exact p e (cond b (turn (afterEnd c v) answer.Done) (refused c refusal.State) .controller .entries)
+      go true = ended-exact e p v l
+      go false = same
+  step-exact deliver f = go (wellFormed c) (ltb (firstEligible e) 24) refl
+    where
+      go :
+          (b a : Bool) → ltb (firstEligible e) 24 ≡ a →
+          Exact p e (cond b (cond a (turn (withEntries c (taken e (firstEligible e))) (given e (firstEligible e))) (turn c answer.Nothing)) (refused c refusal.State) .controller .entries)
+      go true true y = taken-exact e z (firstEligible e) (ltb-true (firstEligible e) 24 y) p
+      go true false y = same
+      go false a y = same
+
+  -- "A low-word write never makes an edge."
+  pub low-write-none : (k : Call) → LowWrite c k → heldAt e p ≡ 0 → heldAt (turnOf c k .controller .entries) p ≡ 0
+  unfolding turnOf writeOf writingOf
+  low-write-none _ (low-write w o v n x y u i t) h = go (wellFormed c)
+    where
+      go : (b : Bool) → heldAt (cond b (cond (eqb w 4) (cond (eqb o 0 || eqb o 0x10) (cond (ltb v (2 ^ 32)) (turn (cond (eqb o 0) (withIndex c (v % 256)) (dataWritten c v)) answer.Done) (refused c refusal.Value)) (refused c refusal.Offset)) (refused c refusal.Width)) (refused c refusal.State) .controller .entries) p ≡ 0
+      go true = rw (x, y, lt-ltb v (2 ^ 32) u, low-index c n i t v) (low-written-none e z n i p v h)
+      go false = h
