@@ -29,7 +29,7 @@ use Rattle.controller.specs.declared.Turn.{Turn}
 use Rattle.controller.specs.State.{withId, withIndex, withEntries, wellFormed, turn, refused, tested}
 use Rattle.controller.specs.Window.{dataRead, dataWritten, readingOf, writingOf, readOf, writeOf}
 use Rattle.controller.specs.Steps.{rewired, wireOf, afterEnd, endOf, deliveringOf, deliverOf}
-use Rattle.controller.specs.Calls.{Call, read, write, wire, end, deliver, turnOf, testsOf}
+use Rattle.controller.specs.Calls.{Call, read, write, wire, end, deliver, turnOf, readTests, writeTests, testsOf}
 use Rattle.controller.proofs.Formed.{formed, reading-same}
 
 -- ---- refusals
@@ -61,7 +61,7 @@ module _ (c : Controller) where
   done : (n : Controller) (a : Answer) → answerNumber a ≡ 0 → DecidedTurn c [] (turn n a)
   done n a e = done-decided c n a e
 
-  pub reading-decided : (w o : ℕ) → DecidedTurn c (test 2 (not (eqb w 4)) ∷ test 1 (not (eqb o 0 || eqb o 0x10)) ∷ []) (readingOf c w o)
+  pub reading-decided : (w o : ℕ) → DecidedTurn c (readTests w o) (readingOf c w o)
   unfolding readingOf numberOf numbersOf
   reading-decided w o = then 2 _ refusal.Width _ (eqb w 4) refl (go (eqb o 0) (eqb o 0x10))
     where
@@ -70,7 +70,7 @@ module _ (c : Controller) where
       go false true = passes 1 [] _ (done c (answer.Value (dataRead c)) refl)
       go false false = refuses 1 [] refusal.Offset refl
 
-  pub writing-decided : (w o v : ℕ) → DecidedTurn c (test 2 (not (eqb w 4)) ∷ test 1 (not (eqb o 0 || eqb o 0x10)) ∷ test 4 (not (ltb v (2 ^ 32))) ∷ []) (writingOf c w o v)
+  pub writing-decided : (w o v : ℕ) → DecidedTurn c (writeTests w o v) (writingOf c w o v)
   unfolding writingOf numberOf numbersOf
   writing-decided w o v =
       then 2 _ refusal.Width _ (eqb w 4) refl
