@@ -13,12 +13,10 @@ use Rattle.entries.specs.declared.Entries.{Entries}
 use Rattle.entries.specs.Table.{heldAt, wired}
 use Rattle.entries.proofs.Gained.{Rises, Exact, wired-exact, quiet-exact, reset-exact, ended-exact}
 use Rattle.controller.specs.declared.Controller.{Controller}
-use Rattle.controller.specs.declared.Turn.{Turn as ControllerTurn}
 use Rattle.controller.specs.Window.{readingOf as controllerReading, writingOf as controllerWriting}
-use Rattle.controller.specs.Calls.{write as writeCall, deliver as deliverCall}
+use Rattle.controller.specs.Calls.{write as writeCall}
 use Rattle.controller.proofs.Formed.{reading-same}
-use Rattle.controller.proofs.Demands.{write-served, deliver-served, deliver-is}
-use Rattle.controller.proofs.Gained.{LowWrite as ControllerLowWrite, low-write as controller-low-write, step-exact, low-write-none as controller-low-write-none}
+use Rattle.controller.proofs.Gained.{LowWrite as ControllerLowWrite, low-write as controller-low-write, writing-exact as controller-writing-exact, delivering-exact, low-writing-none}
 use Rattle.timers.specs.Tick.{firedOf, pulsesOf, routeOf}
 use Rattle.timers.specs.Call.{readingOf as timersReading, writingOf as timersWriting}
 use Rattle.board.specs.declared.Board.{Board}
@@ -100,9 +98,7 @@ module _ (b : Board) (z : Formed b) (p : ℕ) (l : p < 24) where
       go :
           (x : Bool) → eqb n 0 ≡ x → (y : Bool) →
           Exact p e (entriesOf (cond x (byController b (controllerWriting c w o v)) (cond y (byTimers b (timersWriting (b .timers) w o v)) (refused b refusal.Window)) .board))
-      go true q y =
-          subst (λ (t : ControllerTurn). Exact p e (t .controller .entries)) (write-served c (z .controlled) w o v)
-          (step-exact c (z .sized) p l (writeCall w o v) (λ k. f (rw (eqb-true n 0 q) (write-low w o v k))))
+      go true q y = controller-writing-exact c (z .sized) p l w o v (λ k. f (rw (eqb-true n 0 q) (write-low w o v k)))
       go false q true = wired-exact e (wiresOf (b .outside) (timersWriting (b .timers) w o v .timers)) p l
       go false q false = same
 
@@ -122,12 +118,7 @@ module _ (b : Board) (z : Formed b) (p : ℕ) (l : p < 24) where
   served-exact (call.Wire i x) a f = wiring-exact i x
   served-exact (call.End v) a f = ended-exact e p v l
   served-exact (call.Advance n) a f = absurd (a (advances n))
-  served-exact call.Deliver a f =
-      subst (λ (t : ControllerTurn). Exact p e (t .controller .entries)) (deliver-is c ∙ deliver-served c (z .controlled))
-      (step-exact c (z .sized) p l deliverCall no)
-    where
-      no : ControllerLowWrite c deliverCall → ⊥
-      no = elim [ ]
+  served-exact call.Deliver a f = delivering-exact c (z .sized) p l
   served-exact call.Reset a f = reset-exact e p l
 
   pub call-exact : (k : Call) → (Advances k → ⊥) → (LowWrite b k → ⊥) → Exact p e (entriesOf (turnOf b k .board))
@@ -138,5 +129,4 @@ module _ (b : Board) (z : Formed b) (p : ℕ) (l : p < 24) where
   unfolding servedOf writingOf
   low-write-none _ (low-write v n u i t) h =
       ap (λ (t : Turn). heldAt (entriesOf (t .board)) p) (served b (call.Write 0 4 0x10 v) (formed-out b z))
-      ∙ ap (λ (t : ControllerTurn). heldAt (t .controller .entries) p) (sym (write-served c (z .controlled) 4 0x10 v))
-      ∙ controller-low-write-none c (z .sized) p l (writeCall 4 0x10 v) (controller-low-write 4 0x10 v n refl refl u i t) h
+      ∙ low-writing-none c (z .sized) p l 4 0x10 v (controller-low-write 4 0x10 v n refl refl u i t) h
