@@ -4,5 +4,6 @@ pub mod Formed
 pub mod Pulse
 pub mod Apart
 pub mod Delivery
+pub mod Gained
 pub mod One
 pub mod Edges

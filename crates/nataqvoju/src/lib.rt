@@ -6,7 +6,7 @@ ghost use mathlib.Core.Path.{_≡_};
 ghost use Rattle.board.specs.declared.Call.the-variants as call;
 ghost use Rattle.board.specs.Formed.{wellFormed};
 ghost use Rattle.board.specs.Step.{turnOf};
-ghost use Rattle.nataqvoju.specs.Lent.{Gives, resetTurn};
+ghost use Rattle.nataqvoju.specs.Lent.{Gives};
 use answers::Numbers;
 use board::Board;
 
@@ -26,7 +26,7 @@ fn formed(b: &Board) -> bool
 // Whatever was there.
 #[no_mangle]
 pub extern "C" fn nataqvoju_reset(b: &mut Board) -> Numbers
-    ensures { λ r. ⌜ Gives resetTurn (now (b .exit)) r ⌝ }
+    ensures { λ r. ⌜ Gives (turnOf (now (b .entry)) call.Reset) (now (b .exit)) r ⌝ }
 {
     let s = *b;
     let o = calls::reset(s);
