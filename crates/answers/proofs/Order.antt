@@ -54,7 +54,7 @@ module _ {S : Type 0} (s : S) where
 
 -- a turn T carries a state and an answer: a test, the turn where it refuses, and what the tests after it decide
 module _ {S T : Type 0} (state : T → S) (said : T → Answer) (s : S) where
-  abbrev pub DecidedTurn : List Test → T → Type 0
+  abbrev DecidedTurn : List Test → T → Type 0
   DecidedTurn ts t = Decided S ts s (state t) (said t)
 
   pub then-decided : (n : ℕ) (ts : List Test) (t u : T) (f : Bool) → DecidedTurn (test n true ∷ ts) u → DecidedTurn ts t → DecidedTurn (test n (not f) ∷ ts) (cond f t u)

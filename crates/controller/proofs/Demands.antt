@@ -18,7 +18,7 @@ use Rattle.answers.proofs.Order.{only-if, if, Decided, done-decided, refused-de
 use Rattle.answers.proofs.Refused.{answerNumber, refused-bare, one-result}
 use Rattle.entries.specs.declared.Entries.{Entries}
 use Rattle.entries.specs.Table.{firstEligible, eligibleAt, given, taken, lowShown}
-use Rattle.entries.proofs.Delivery.{Lowest, first-le-24, lowest-found, lowest-of, none-eligible, none-eligible-of, bit-12}
+use Rattle.entries.proofs.Delivery.{Lowest, first-eligible-le, lowest-found, lowest-of, none-eligible, none-eligible-of, bit-12}
 use Rattle.controller.specs.declared.Controller.{Controller}
 use Rattle.controller.specs.declared.Turn.{Turn}
 use Rattle.controller.specs.State.{withIndex, withEntries, wellFormed, turn, refused, tested}
@@ -176,7 +176,7 @@ module _ (c : Controller) where
           cond w (cond b (turn (withEntries c (taken e (firstEligible e))) (given e (firstEligible e))) (turn c answer.Nothing)) (refused c refusal.State) .answer ≡ answer.Nothing →
           (wellFormed c ≡ true) × ((p : ℕ) → p < 24 → eligibleAt e p ≡ false)
       go true x true y q = not-nothing e (firstEligible e) (sym q)
-      go true x false y q = (x, none-eligible e (ends (firstEligible e) (first-le-24 e) (ltb-false (firstEligible e) 24 y)))
+      go true x false y q = (x, none-eligible e (ends (firstEligible e) (first-eligible-le e) (ltb-false (firstEligible e) 24 y)))
         where
           ends : (i : ℕ) → i ≤ 24 → 24 ≤ i → i ≡ 24
           ends i a b = omega arith

@@ -10,6 +10,7 @@ use lib.Dec.{eqb}
 use lib.ListN.{length}
 use mir.Val.{boolByte}
 use borrow.Author.Tests.{eq-eqb, ne-eqb, le-leb, lt-leb, lt-ltb, le-ltb}
+use Rattle.pins.proofs.Bools.{byte-lt}
 use Rattle.answers.specs.declared.Refusal.the-variants as refusal
 use Rattle.answers.specs.declared.Answer.the-variants as answer
 use Rattle.timer.specs.declared.Timer.{Timer}
@@ -24,10 +25,6 @@ use Rattle.timers.proofs.Three.{three-same, eta}
 use Rattle.timers.specs.Call.{turn, refused, readingOf, writingOf, readOf, writeOf}
 
 -- ---- the status register
-
-byte-lt : (b : Bool) → boolByte b < 2
-byte-lt true = omega arith
-byte-lt false = omega arith
 
 pub status-code : (s : Timers) (x y z : ℕ) → x ≡ placed 2 (at s 2 .status) → y ≡ placed 1 (at s 1 .status) → z ≡ placed 0 (at s 0 .status) → bitOr x (bitOr y z) ≡ statusOf s
 unfolding statusOf

@@ -6,6 +6,7 @@ use lib.ListN.{getD}
 use Rattle.answers.specs.declared.Refusal.the-variants as refusal
 use Rattle.answers.specs.declared.Answer.the-variants as answer
 use Rattle.answers.specs.Numbers.{numbersOf}
+use Rattle.answers.proofs.Refused.{answerFired}
 use Rattle.timers.specs.declared.Timers.{Timers}
 use Rattle.timers.specs.declared.Turn.{Turn}
 use Rattle.timers.specs.declared.Ran.{Ran}
@@ -14,10 +15,6 @@ use Rattle.timers.specs.Tick.{ticks, firings}
 use Rattle.timers.specs.Inner.{ranOf}
 use Rattle.timers.specs.Call.{turn, refused, advancingOf, advanceOf}
 use Rattle.timers.proofs.Three.{at-three}
-
--- timer m's count in an answer
-abbrev pub fired : ℕ → Turn → ℕ
-fired m r = getD (numbersOf (r .answer) .fired) m 0
 
 module _ (s : Timers) (n : ℕ) where
   pub advance-refused : wellFormed s ≡ false → advanceOf s n ≡ refused s refusal.State
@@ -36,9 +33,9 @@ module _ (s : Timers) (n : ℕ) where
   pub advance-timers : wellFormed s ≡ true → advanceOf s n .timers ≡ ticks n s
   advance-timers e = ap (λ (r : Turn). r .timers) (advance-ticked e)
 
-  pub advance-fired : (m : ℕ) → m < 3 → wellFormed s ≡ true → fired m (advanceOf s n) ≡ firings m n s
+  pub advance-fired : (m : ℕ) → m < 3 → wellFormed s ≡ true → answerFired m (advanceOf s n .answer) ≡ firings m n s
   unfolding numbersOf
-  advance-fired m l e = ap (fired m) (advance-ticked e) ∙ at-three (λ j. firings j n s) 0 m l
+  advance-fired m l e = ap (λ (r : Turn). answerFired m (r .answer)) (advance-ticked e) ∙ at-three (λ j. firings j n s) 0 m l
 
   -- by what `ran` gives
   pub advancing-ran : (r : Ran) → r ≡ ranOf s n → turn (r .timers) (answer.Fired (getD (r .fired) 0 0) (getD (r .fired) 1 0) (getD (r .fired) 2 0)) ≡ advancingOf s n

@@ -8,7 +8,7 @@ use Rattle.answers.specs.declared.Answer.the-variants as answer
 use Rattle.answers.specs.Numbers.{bare, numbersOf}
 use Rattle.answers.specs.Order.{Given}
 use Rattle.answers.proofs.Order.{only-if, if}
-use Rattle.answers.proofs.Refused.{answerNumber, refused-bare, one-result}
+use Rattle.answers.proofs.Refused.{answerNumber, answerFired, refused-bare, one-result}
 use Rattle.timer.specs.declared.Timer.{Timer}
 use Rattle.timer.specs.Closed.{times}
 use Rattle.timer.proofs.Width.{hit}
@@ -21,7 +21,7 @@ use Rattle.timers.specs.Call.{turn, advanceOf}
 use Rattle.timers.specs.Calls.{Call, read, write, advance, turnOf, testsOf}
 use Rattle.timers.proofs.Access.{write-done}
 use Rattle.timers.proofs.Formed.{ticks-formed, read-timers, writing-formed}
-use Rattle.timers.proofs.Advance.{fired, advance-ticked, advance-timers, advance-fired}
+use Rattle.timers.proofs.Advance.{advance-ticked, advance-timers, advance-fired}
 use Rattle.timers.proofs.Decided.{decided}
 use Rattle.timers.proofs.Portions.{ticks-add, firings-add, total}
 use Rattle.timers.proofs.Runs.{SameBut, ticks-alike, firings-alike}
@@ -61,7 +61,7 @@ advances (n ∷ ns) s = advances ns (advanceOf s n .timers)
 
 unfoldable pub counts : ℕ → List ℕ → Timers → ℕ
 counts m [] s = 0
-counts m (n ∷ ns) s = fired m (advanceOf s n) + counts m ns (advanceOf s n .timers)
+counts m (n ∷ ns) s = answerFired m (advanceOf s n .answer) + counts m ns (advanceOf s n .timers)
 
 pub portions-state : (ns : List ℕ) (s : Timers) → wellFormed s ≡ true → advances ns s ≡ advanceOf s (total ns) .timers
 unfolding advances total ticks
@@ -73,7 +73,7 @@ portions-state (n ∷ ns) s e =
     ∙ sym (ticks-add n (total ns) s)
     ∙ sym (advance-timers s (n + total ns) e)
 
-pub portions-counts : (m : ℕ) (ns : List ℕ) (s : Timers) → m < 3 → wellFormed s ≡ true → counts m ns s ≡ fired m (advanceOf s (total ns))
+pub portions-counts : (m : ℕ) (ns : List ℕ) (s : Timers) → m < 3 → wellFormed s ≡ true → counts m ns s ≡ answerFired m (advanceOf s (total ns) .answer)
 unfolding counts total firings
 portions-counts m [] s l e = sym (advance-fired s 0 m l e)
 portions-counts m (n ∷ ns) s l e =
@@ -92,7 +92,7 @@ pub record Alike (m : ℕ) (r r' : Turn) : Type 0 where
   pub comparator : (i : ℕ) → i < 3 → (i ≡ m → ⊥) → at (r .timers) i .comparator ≡ at (r' .timers) i .comparator
   pub period : (i : ℕ) → i < 3 → (i ≡ m → ⊥) → at (r .timers) i .period ≡ at (r' .timers) i .period
   pub status : (i : ℕ) → i < 3 → (i ≡ m → ⊥) → at (r .timers) i .status ≡ at (r' .timers) i .status
-  pub firings : (i : ℕ) → i < 3 → (i ≡ m → ⊥) → fired i r ≡ fired i r'
+  pub firings : (i : ℕ) → i < 3 → (i ≡ m → ⊥) → answerFired i (r .answer) ≡ answerFired i (r' .answer)
 
 pub two-runs : (m n : ℕ) (s s' : Timers) → wellFormed s ≡ true → wellFormed s' ≡ true → SameBut m s s' → Alike m (advanceOf s n) (advanceOf s' n)
 two-runs m n s s' e e' h =
