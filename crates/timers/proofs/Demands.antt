@@ -49,10 +49,7 @@ next-match-64 = next-match 64
 pub advance-is-ticks : (s : Timers) (n : ℕ) → wellFormed s ≡ true → advanceOf s n ≡ turn (ticks n s) (answer.Fired (firings 0 n s) (firings 1 n s) (firings 2 n s))
 advance-is-ticks = advance-ticked
 
--- ---- in portions: two, and any list of them, zeros too
-
-pub two-portions : (m a b : ℕ) (s : Timers) → (ticks (a + b) s ≡ ticks b (ticks a s)) × (firings m (a + b) s ≡ firings m a s + firings m b (ticks a s))
-two-portions m a b s = (ticks-add a b s, firings-add m a b s)
+-- ---- in any portions, zeros too
 
 -- the state after a list of advances, and what timer m's counts in them add up to
 unfoldable pub advances : List ℕ → Timers → Timers

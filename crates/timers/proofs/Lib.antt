@@ -1,7 +1,6 @@
 -- The timer block's laws, for whoever stands above it: none of its definitions has to be opened.
 --
 -- Demands    what the paper asks, sentence by sentence
--- Sheet      B7 to B11
 --
 -- Turns      a tick turn by turn: turns-zero, turns-suc, turned-fires, turned-rests, turned-matches, turns-matches; fires-when, fires-on, fires-off;
 --            routes and pulses stay, statuses and wires only rise: turns-, tick-, ticks- with -pulses, -route, -risen, -drives;
@@ -30,6 +29,5 @@ pub mod First
 pub mod Formed
 pub mod Advance
 pub mod Runs
-pub mod Sheet
 pub mod Decided
 pub mod Demands
