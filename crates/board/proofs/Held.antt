@@ -20,7 +20,8 @@ use Rattle.controller.specs.Window.{readingOf as controllerReading, writingOf a
 use Rattle.controller.specs.Steps.{rewired}
 use Rattle.controller.specs.Calls.{write as writeCall, deliver as deliverCall}
 use Rattle.controller.proofs.Formed.{reading-same}
-use Rattle.controller.proofs.Demands.{Loses as ControllerLoses, delivered as controller-delivered, made-level as controller-made-level, held-kept as controller-held-kept, held-lost as controller-held-lost, read-served, write-served, deliver-served, deliver-is, status-read as controller-status-read}
+use Rattle.controller.proofs.Demands.{read-served, write-served, deliver-served, deliver-is, status-read as controller-status-read}
+use Rattle.controller.proofs.Held.{Loses as ControllerLoses, delivered as controller-delivered, made-level as controller-made-level, held-kept as controller-held-kept, held-lost as controller-held-lost}
 use Rattle.timers.specs.declared.Timers.{Timers}
 use Rattle.timers.specs.State.{isEnabled}
 use Rattle.timers.specs.Tick.{matchesOf, firedOf, pulsesOf, routeOf}

@@ -9,6 +9,7 @@ use answers::Refusal;
 use entries::Entries;
 
 impl Controller {
+    // a pin above 23 is refused, and a wire level above 1
     pub const PINS: u64 = 24;
 
     pub const LAST_LEVEL: u64 = 1;

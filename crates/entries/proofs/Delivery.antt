@@ -11,7 +11,7 @@ use lib.ListN.{set}
 use lib.Seq.{getD-set-same, getD-set-other, set-getD}
 use borrow.Author.Tests.{eq-eqb, ne-eqb}
 use Rattle.pins.proofs.Bools.{clash, and-false, and-true}
-use Rattle.pins.proofs.First.{First, first-le, first-found, first-of, first-none, first-none-of}
+use Rattle.pins.proofs.First.{First, first-le-24, first-found, first-of, first-none, first-none-of}
 use Rattle.entries.specs.declared.Entries.{Entries}
 use Rattle.entries.specs.Word.{levelOf, remoteOf, maskedOf, modeOf, withRemote, written, shown}
 use Rattle.entries.specs.Pin.{asserted, eligible}
@@ -26,9 +26,9 @@ abbrev pub Lowest : Entries → ℕ → Type 0
 Lowest e i = First (eligibleAt e) i
 
 module _ (e : Entries) where
-  pub first-le-24 : firstEligible e ≤ 24
+  pub first-eligible-le : firstEligible e ≤ 24
   unfolding firstEligible
-  first-le-24 = first-le (eligibleAt e)
+  first-eligible-le = first-le-24 (eligibleAt e)
 
   pub lowest-found : (i : ℕ) → i < 24 → firstEligible e ≡ i → Lowest e i
   unfolding firstEligible

@@ -62,9 +62,13 @@ firstEligible e = first (eligibleAt e)
 
 -- ---- steps
 
+-- what pin i holds once the wires are l
+abbrev pub heldOn : Entries → List ℕ → ℕ → ℕ
+heldOn e l i = heldAfter (lowAt e i) (levelAt e i) (getD l i 0) (heldAt e i)
+
 -- the wires change to these levels, all at once: each unmasked edge pin that went from not asserted to asserted holds an edge
 unfoldable pub wired : Entries → List ℕ → Entries
-wired e l = withLevel (withHeld e (pins (λ i. heldAfter (lowAt e i) (levelAt e i) (getD l i 0) (heldAt e i)))) l
+wired e l = withLevel (withHeld e (pins (heldOn e l))) l
 
 -- pin p's wire raised from the levels l and dropped again, two steps
 unfoldable pub pulsed : Entries → List ℕ → ℕ → Entries

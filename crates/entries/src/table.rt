@@ -9,6 +9,7 @@ use answers::Answer;
 impl Entries {
     pub const PINS: usize = 24;
 
+    // a high word's destination: bits 31:24, writable
     pub const DESTINATION_AT: u32 = 24;
 
     pub fn reset() -> Entries

@@ -1,7 +1,9 @@
 -- Laws of Booleans.
 use mathlib.Core.Path.{_≡_, refl, sym, subst}
 use mathlib.Core.Bool.{Bool, true, false, not, _&&_, _||_}
-use lib.Dec.{T}
+use Prim.Native.Nat.{_<_}
+use lib.Dec.{T, eqb, lit<}
+use mir.Val.{boolByte}
 
 pub clash : {A : Type 0} → true ≡ false → A
 clash e = absurd (subst T e tt)
@@ -65,3 +67,13 @@ either false false e = clash e
 pub not-true-false : (a : Bool) → (a ≡ true → ⊥) → a ≡ false
 not-true-false true f = absurd (f refl)
 not-true-false false f = refl
+
+-- ---- as a byte
+
+pub byte-lt : (b : Bool) → boolByte b < 2
+byte-lt true = lit< tt
+byte-lt false = lit< tt
+
+pub eqb-byte : (b : Bool) → eqb (boolByte b) 1 ≡ b
+eqb-byte true = refl
+eqb-byte false = refl

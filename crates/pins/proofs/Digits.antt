@@ -11,10 +11,7 @@ use lib.Count.{trailingZeros, under}
 use lib.Pow.{pow-mono}
 use mir.Val.{boolByte}
 use Rattle.pins.specs.Pins.{bitsFrom, firstFrom}
-
-byte-lt : (b : Bool) → boolByte b < 2
-byte-lt true = lit< tt
-byte-lt false = lit< tt
+use Rattle.pins.proofs.Bools.{byte-lt}
 
 -- one digit more, below the others
 step : (b : Bool) (at n t r : ℕ) → suc at + min n t ≡ r → at + min (suc n) (under (boolByte b) t) ≡ cond b at r

@@ -9,21 +9,21 @@ use Rattle.pins.specs.Pins.{firstFrom, allFrom}
 use Rattle.pins.proofs.Bools.{and-true, and-assoc}
 
 module _ (p : ℕ → Bool) (n i : ℕ) where
-  pub first-next : i < n → p i ≡ false → firstFrom p i (n - i) ≡ firstFrom p (i + 1) (n - (i + 1))
+  pub scan-next : i < n → p i ≡ false → firstFrom p i (n - i) ≡ firstFrom p (i + 1) (n - (i + 1))
   unfolding firstFrom
-  first-next h e =
+  scan-next h e =
       let s : n - i ≡ suc (n - (i + 1)) = omega arith in
       rw (s, e, add-one)
 
-  pub first-here : i < n → p i ≡ true → firstFrom p i (n - i) ≡ i
+  pub scan-here : i < n → p i ≡ true → firstFrom p i (n - i) ≡ i
   unfolding firstFrom
-  first-here h e =
+  scan-here h e =
       let s : n - i ≡ suc (n - (i + 1)) = omega arith in
       rw (s, e)
 
-  pub first-end : n ≤ i → firstFrom p i (n - i) ≡ i
+  pub scan-end : n ≤ i → firstFrom p i (n - i) ≡ i
   unfolding firstFrom
-  first-end h =
+  scan-end h =
       let s : n - i ≡ 0 = omega arith in
       rw s
 

@@ -44,7 +44,7 @@ impl Timers {
         (self.enabled == 1) & (t0.drives(pin) | (t1.drives(pin) | t2.drives(pin)))
     }
 
-    // The pin whose wire timer m holds high, or 24.
+    // The pin whose wire timer m holds high, or none.
     pub fn driven(self, m: usize) -> u16
         ensures { λ r. ⌜ r ≡ drivenOf self m ⌝ }
     {
@@ -52,7 +52,7 @@ impl Timers {
         if (self.enabled == 1) & t.holds() {
             t.route
         } else {
-            24
+            Timers::NO_PIN
         }
     }
 

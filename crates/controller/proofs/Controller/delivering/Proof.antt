@@ -42,8 +42,8 @@ returns c =
     let e = x .before .before .args .self .entries in
     let z = sized (x .before .before) in
     ⊎-elim
-    (λ w. rw (w .2, ← (x .first-eligible .ensures), lt-ltb _ _ (w .0 .taken), c .taken .ensures, w .1 .ensures))
-    (λ w. rw (w .1, ← (x .first-eligible .ensures), le-ltb _ _ (w .0 .left), c .taken .ensures, taken-above e z (x .first-eligible .result) (w .0 .left)))
+    (λ w. rw (w .2, ← (x .first-eligible .ensures), lt-ltb _ 24 (w .0 .taken), c .taken .ensures, w .1 .ensures))
+    (λ w. rw (w .1, ← (x .first-eligible .ensures), le-ltb _ 24 (w .0 .left), c .taken .ensures, taken-above e z (x .first-eligible .result) (w .0 .left)))
     (j .if1 .came)
 
 pub delivering-spec : {M : Type 1} → statement M

@@ -4,7 +4,7 @@ use mathlib.Core.List.{List}
 use Prim.Native.Nat.{ℕ, _-_, _≤_}
 use lib.ListN.{getD}
 use Rattle.pins.specs.Pins.{firstFrom, first}
-use Rattle.pins.proofs.Scan.{first-next, first-here, first-end}
+use Rattle.pins.proofs.Scan.{scan-next, scan-here, scan-end}
 use Rattle.entries.specs.Pin.{eligible}
 use Rattle.entries.specs.Table.{firstEligible}
 use native.Mathlib.Omega.{arith}
@@ -45,7 +45,7 @@ returns : tie.Need-returns Inv-loop μ-loop
 unfolding firstEligible
 returns c =
     let a = c .before .before .before in
-    sym (a .loop .inv .1 ∙ first-here _ 24 (a .loop .i) (c .before .before .loop-test .taken) (sym (c .before .eligible .ensures) ∙ c .if1 .taken))
+    sym (a .loop .inv .1 ∙ scan-here _ 24 (a .loop .i) (c .before .before .loop-test .taken) (sym (c .before .eligible .ensures) ∙ c .if1 .taken))
 
 add-i : tie.Need-add-i Inv-loop μ-loop
 add-i c = omega arith
@@ -56,11 +56,11 @@ loop-less c = omega arith
 loop-again : tie.Need-loop-again Inv-loop μ-loop
 loop-again c =
     let a = c .before .before .before in
-    (omega arith, a .loop .inv .1 ∙ first-next _ 24 (a .loop .i) (c .before .before .loop-test .taken) (sym (c .before .eligible .ensures) ∙ c .if1 .left))
+    (omega arith, a .loop .inv .1 ∙ scan-next _ 24 (a .loop .i) (c .before .before .loop-test .taken) (sym (c .before .eligible .ensures) ∙ c .if1 .left))
 
 returns-2 : tie.Need-returns-2 Inv-loop μ-loop
 unfolding firstEligible
-returns-2 c = sym (c .before .loop .inv .1 ∙ first-end _ 24 (c .before .loop .i) (c .loop-test .left))
+returns-2 c = sym (c .before .loop .inv .1 ∙ scan-end _ 24 (c .before .loop .i) (c .loop-test .left))
 
 pub first-eligible-spec : {M : Type 1} → statement M
 first-eligible-spec =

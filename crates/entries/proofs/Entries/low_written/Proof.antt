@@ -3,6 +3,7 @@ use mathlib.Core.Logic.{⊎-elim}
 use lib.ListN.{length}
 use lib.Seq.{set-getD}
 use Rattle.entries.proofs.Sized.{low-written-above}
+use Rattle.entries.specs.Word.{levelOf}
 use Rattle.entries.specs.Table.{lowWritten}
 use borrow.Author.Needs.{needs}
 use Rattle.entries.proofs.Entries.low_written.Statement.{statement}
@@ -48,9 +49,10 @@ returns-2 c =
     let j = c .before .before in
     let e = j .before .before .before .before .before .before .args .self in
     let n = j .before .before .before .before .before .before .args .n in
+    let level : levelOf (j .before .before .written .result) ≡ j .before .is-level .result = sym (j .before .is-level .ensures) in
     ⊎-elim
-    (λ w. rw (w .1, ← (j .before .before .written .ensures), sym (j .before .is-level .ensures) ∙ w .0 .taken))
-    (λ w. rw (w .1, ← (j .before .before .written .ensures), sym (j .before .is-level .ensures) ∙ w .0 .left, set-getD (e .held) n 0))
+    (λ w. rw (w .1, ← (j .before .before .written .ensures), level ∙ w .0 .taken))
+    (λ w. rw (w .1, ← (j .before .before .written .ensures), level ∙ w .0 .left, set-getD (e .held) n 0))
     (j .if2 .came)
 
 pub low-written-spec : {M : Type 1} → statement M
