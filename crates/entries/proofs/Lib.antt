@@ -5,4 +5,5 @@ pub mod Pulse
 pub mod Apart
 pub mod Delivery
 pub mod One
+pub mod Strikes
 pub mod Edges
