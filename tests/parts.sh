@@ -1,16 +1,9 @@
 # What several tests need. No test itself: it is sourced, from the repository's folder, and not executable.
 passed=0 failed=0
 
-# program: target/bin/replay, built if it isn't there
-program() { [ -x target/bin/replay ] || rt check replay; }
-
-# archive: target/staticlib/libnataqvoju.a, built unless it is newer than all that crates/ has
-archive() {
-  local archive=target/staticlib/libnataqvoju.a
-  [ -f "$archive" ] && [ -z "$(find crates crates.txt -newer "$archive" -print -quit)" ] && return
-  rm -f "$archive"
-  rt staticlib nataqvoju && [ -f "$archive" ]
-}
+. tests/build.sh
+program() { built_program replay; }
+archive() { built_library nataqvoju; }
 
 # tallied SAID STATUS: the counts of a command that printed SAID and ended with STATUS, as 'N M'. They are those of its
 # last line, 'N passed, M failed'. No such line, nothing counted, or a status that does not fit: a failure.

@@ -18,6 +18,7 @@ use Rattle.timers.proofs.Formed.{writing-formed}
 use Rattle.board.specs.declared.Board.{Board}
 use Rattle.board.specs.declared.Call.{Call}
 use Rattle.board.specs.declared.Call.the-variants as call
+use Rattle.board.specs.declared.Turn.{Turn}
 use Rattle.board.specs.State.{board, resetBoard, withController, turn, refused}
 use Rattle.board.specs.Wires.{joined}
 use Rattle.board.specs.Formed.{wellFormed}
@@ -25,6 +26,17 @@ use Rattle.board.specs.Sheet.{reset-formed as computed}
 use Rattle.board.specs.Step.{byController, byTimers, readingOf, writingOf, wiringOf, endingOf, advancingOf, deliveringOnBoard, servedOf, turnOf}
 use Rattle.board.proofs.Formed.{Sized, Formed, formed-in, formed-out, joined-formed}
 use Rattle.board.proofs.Ticks.{ticks-formed}
+use Rattle.board.proofs.Served.{formed-taken, turn-served}
+
+-- reset
+pub reset-sized : Sized resetBoard
+reset-sized = record { low = refl; destination = refl; level = refl; held = refl }
+
+pub reset-formed : wellFormed resetBoard ≡ true
+reset-formed = computed
+
+pub reset : Formed resetBoard
+reset = formed-in resetBoard reset-formed reset-sized
 
 module _ (b : Board) (z : Formed b) where
   -- a controller that a call left well formed, with the levels that it had
@@ -73,24 +85,13 @@ module _ (b : Board) (z : Formed b) where
       record { controlled = k .formed; timed = z .timed; outer = z .outer; wired = ended-level (b .controller .entries) v ∙ z .wired; sized = k .sized }
   served-keeps (call.Advance n) = ticks-formed b z n
   served-keeps call.Deliver = with-controller (deliveringOf (b .controller)) (delivering-keeps (b .controller) (z .controlled) (z .sized)) (delivering-levels (b .controller))
-
-  pub keeps : (c : Call) → Formed (turnOf b c .board)
-  unfolding turnOf
-  keeps c = rw (formed-out b z) (served-keeps c)
+  served-keeps call.Reset = reset
 
 pub served : (b : Board) (c : Call) → wellFormed b ≡ true → turnOf b c ≡ servedOf b c
-unfolding turnOf
-served b c e = rw e
+served b c e = turn-served b c (formed-taken b c e)
+
+pub keeps : (b : Board) → Formed b → (c : Call) → Formed (turnOf b c .board)
+keeps b z c = subst (λ (t : Turn). Formed (t .board)) (sym (served b c (formed-out b z))) (served-keeps b z c)
 
 pub step-formed : (b : Board) (c : Call) → Sized b → wellFormed b ≡ true → wellFormed (turnOf b c .board) ≡ true
 step-formed b c s e = formed-out (turnOf b c .board) (keeps b (formed-in b e s) c)
-
--- reset
-pub reset-sized : Sized resetBoard
-reset-sized = record { low = refl; destination = refl; level = refl; held = refl }
-
-pub reset-formed : wellFormed resetBoard ≡ true
-reset-formed = computed
-
-pub reset : Formed resetBoard
-reset = formed-in resetBoard reset-formed reset-sized

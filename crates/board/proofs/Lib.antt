@@ -7,9 +7,11 @@ pub mod Ticks
 pub mod Order
 pub mod Strikes
 pub mod At
+pub mod Served
 pub mod Keeps
 pub mod Runs
 pub mod Held
+pub mod Steps
+pub mod Gained
 pub mod Demands
 pub mod Leaves
-pub mod Served

@@ -41,6 +41,7 @@ pub enum Call {
         ticks: u32,
     },
     Deliver,
+    Reset,
 }
 
 pub struct Turn {

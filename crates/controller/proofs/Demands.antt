@@ -29,7 +29,7 @@ use Rattle.controller.specs.declared.Turn.{Turn}
 use Rattle.controller.specs.State.{withId, withIndex, withEntries, wellFormed, turn, refused, tested}
 use Rattle.controller.specs.Window.{dataRead, dataWritten, readingOf, writingOf, readOf, writeOf}
 use Rattle.controller.specs.Steps.{rewired, wireOf, afterEnd, endOf, deliveringOf, deliverOf}
-use Rattle.controller.specs.Calls.{Call, read, write, wire, end, deliver, turnOf, testsOf}
+use Rattle.controller.specs.Calls.{Call, read, write, wire, end, deliver, turnOf, readTests, writeTests, testsOf}
 use Rattle.controller.proofs.Formed.{formed, reading-same}
 
 -- ---- refusals
@@ -61,7 +61,7 @@ module _ (c : Controller) where
   done : (n : Controller) (a : Answer) → answerNumber a ≡ 0 → DecidedTurn c [] (turn n a)
   done n a e = done-decided c n a e
 
-  pub reading-decided : (w o : ℕ) → DecidedTurn c (test 2 (not (eqb w 4)) ∷ test 1 (not (eqb o 0 || eqb o 0x10)) ∷ []) (readingOf c w o)
+  pub reading-decided : (w o : ℕ) → DecidedTurn c (readTests w o) (readingOf c w o)
   unfolding readingOf numberOf numbersOf
   reading-decided w o = then 2 _ refusal.Width _ (eqb w 4) refl (go (eqb o 0) (eqb o 0x10))
     where
@@ -70,7 +70,7 @@ module _ (c : Controller) where
       go false true = passes 1 [] _ (done c (answer.Value (dataRead c)) refl)
       go false false = refuses 1 [] refusal.Offset refl
 
-  pub writing-decided : (w o v : ℕ) → DecidedTurn c (test 2 (not (eqb w 4)) ∷ test 1 (not (eqb o 0 || eqb o 0x10)) ∷ test 4 (not (ltb v (2 ^ 32))) ∷ []) (writingOf c w o v)
+  pub writing-decided : (w o v : ℕ) → DecidedTurn c (writeTests w o v) (writingOf c w o v)
   unfolding writingOf numberOf numbersOf
   writing-decided w o v =
       then 2 _ refusal.Width _ (eqb w 4) refl
@@ -208,8 +208,16 @@ pub data Loses (c : Controller) (p : ℕ) : Call → Type 0 where
   delivered : deliverOf c .answer ≡ given (c .entries) p → Loses c p deliver
   made-level : (w o v : ℕ) → w ≡ 4 → o ≡ 0x10 → c .index ≡ 0x10 + 2 * p → v < 2 ^ 32 → levelOf v ≡ true → Loses c p (write w o v)
 
-index-is : (i p : ℕ) → 0x10 ≤ i → (i - 0x10) % 2 ≡ 0 → p ≡ (i - 0x10) / 2 → i ≡ 0x10 + 2 * p
+pub index-is : (i p : ℕ) → 0x10 ≤ i → (i - 0x10) % 2 ≡ 0 → p ≡ (i - 0x10) / 2 → i ≡ 0x10 + 2 * p
 index-is i p a b e = omega arith
+
+-- the index of entry p's low word
+pub low-index : (c : Controller) (p : ℕ) → p < 24 → c .index ≡ 0x10 + 2 * p → (v : ℕ) → dataWritten c v ≡ withEntries c (lowWritten (c .entries) p v)
+unfolding dataWritten
+low-index c p l at v =
+    let half : (0x10 + 2 * p - 0x10) / 2 ≡ p = omega arith in
+    let even : (0x10 + 2 * p - 0x10) % 2 ≡ 0 = omega arith in
+    rw (at, ne-eqb (0x10 + 2 * p) 0 (omega arith), le-ltb (0x10 + 2 * p) 0x10 (omega arith), lt-leb 0x40 (0x10 + 2 * p) (omega arith), even, half)
 
 module _ (c : Controller) (z : Sized (c .entries)) (p : ℕ) (l : p < 24) (h : heldAt (c .entries) p ≡ 1) where
   abbrev n : ℕ
@@ -288,13 +296,6 @@ module _ (c : Controller) (z : Sized (c .entries)) (p : ℕ) (l : p < 24) (h : h
       go true x false y = h
       go false x a y = h
 
-  low-index : c .index ≡ 0x10 + 2 * p → (v : ℕ) → dataWritten c v ≡ withEntries c (lowWritten (c .entries) p v)
-  unfolding dataWritten
-  low-index at v =
-      let half : (0x10 + 2 * p - 0x10) / 2 ≡ p = omega arith in
-      let even : (0x10 + 2 * p - 0x10) % 2 ≡ 0 = omega arith in
-      rw (at, ne-eqb (0x10 + 2 * p) 0 (omega arith), le-ltb (0x10 + 2 * p) 0x10 (omega arith), lt-leb 0x40 (0x10 + 2 * p) (omega arith), even, half)
-
   module _ (f : wellFormed c ≡ true) where
     -- … and each of the two loses it
     pub held-lost : (k : Call) → Loses c p k → heldAt (turnOf c k .controller .entries) p ≡ 0
@@ -304,7 +305,7 @@ module _ (c : Controller) (z : Sized (c .entries)) (p : ℕ) (l : p < 24) (h : h
         ap (λ (t : Turn). heldAt (t .controller .entries) p) (delivers-if c p f l (r .2))
         ∙ taken-held-own (c .entries) z p l (held-edge (c .entries) (formed c f .entries) p l h)
     held-lost _ (made-level w o v x y i u t) =
-        rw (f, x, y, lt-ltb v (2 ^ 32) u, low-index i v)
+        rw (f, x, y, lt-ltb v (2 ^ 32) u, low-index c p l i v)
         (low-written-held-dropped (c .entries) z p v l t)
 
 -- ---- "Bit 12 reads 1 exactly for an eligible pin"

@@ -1,6 +1,7 @@
 -- What the walks of the lent entries share, as steps of `types.Kit`'s calculus.
 --     tests    `formed` is called on a lent board: the borrow is opened, the board is lent as `&` for a lifetime that is made for the call, the lifetime is ended, the board comes back, and the borrow is closed at the state that it had.
 --              So the borrow stands as it stood, and the answer is known.
+--     asks     the same of a board that is lent as `&` already: a copy of the `&` goes to `formed`
 --     parts    `if .. { .. return }`, and the rest: the arm that ends without `return` goes on with the rest
 --     takes    a lent board is opened, with its machine value written out
 --     leaves   and closed at another state
@@ -17,15 +18,15 @@ use mir.Syntax.{named, Opd as Operand, Place, Body as Code, seq, skip, cond, cal
 use mir.Val.{Val, vbool, vptr}
 use base.Logic.{SProp, ent, emp, sep, snd∗, exE, id⊢}
 use base.Stored.{Gv}
-use base.Fml.{GName, Lft, Share, ftrue, fat, flft, flent, fobs, fauth, fbor, fobor}
+use base.Fml.{GName, Lft, Share, ftrue, fat, flft, flent, fobs, fauth, fres, fbor, fobor, fshr-bor}
 use prog.Memory.{Memory}
 use prog.Routine.{Routine}
 use prog.Wp.{Heap, Env, Calls, Loops, Wp, afterSeq}
 use ghost.Atoms.{Atoms, sem}
 use contract.Monad.{Fun, fact}
-use types.Kit.{Given, Item, Goal, Soaks, Post, anyQ, post, runs, lands, Seq, Step, step, ‵, raw, _⊛_, some, later, _$_, _∵_, !, qed, move, drop, use0, use1, use2, split, join, pick, fjoin, regoal, frame, await, done}
+use types.Kit.{Given, Item, Goal, Soaks, Post, anyQ, post, runs, lands, Seq, Step, step, ‵, raw, _⊛_, some, later, _$_, _∵_, !, qed, move, drop, use0, use1, use2, split, join, pick, fjoin, fjoin3, feqI, regoal, frame, await, done}
 use types.Run.{Opd, Opds, first, branches, skips, no-more}
-use types.Tokens.{lft-new, lft-end, lent-back}
+use types.Tokens.{lft-new, lft-end, lent-back, res-dup, shr-bor-dup}
 use types.Mut.{open-ref, close-ref}
 use types.SemTy.{Body}
 use sound.WpLaws.{FmC}
@@ -67,21 +68,21 @@ abbrev pub No : {M : Type 1} (𝓤 : URA M) (H : Heap 𝓤) (A : Atoms 𝓤) (me
 No 𝓤 H A mem run = tripleOf 𝓤 H A no.signature (no.spec 𝓤 H A mem run)
 
 module _ {M : Type 1} (𝓤 : URA M) (H : Heap 𝓤) (A : Atoms 𝓤) (W : Given 𝓤 H A) (at-mem : Memory → SProp 𝓤) (run : Routine → Fun 𝓤) where
-  -- what `formed`'s triple binds outside: the board lent for the lifetime α, under the name δ
-  module _ (h : Board) (b o : ℕ) (α : ℕ) (δ : GName) where
+  -- what `formed`'s triple binds outside: the board lent for the lifetime κ, of whose token there is the share s, under the name δ
+  module _ (h : Board) (b o : ℕ) (κ : Lft) (s : Share) (δ : GName) where
     abbrev x : RefT Board
     x = record { ptr = (b, o); name = δ; now = h }
 
     abbrev to-test : Test 𝓤 H A at-mem run .Ghost
-    to-test = (((α ∷ [], tt), (fullShare, tt), tt, (x, tt), (vptr b o ∷ [], tt)), tt)
+    to-test = (((κ, tt), (s, tt), tt, (x, tt), (vptr b o ∷ [], tt)), tt)
 
-    goes-test : ent 𝓤 (sep 𝓤 (A .lft (α ∷ []) fullShare) (sem 𝓤 H A (ShrRef (named 0) (α ∷ []) T.the-row .own x (vptr b o ∷ [])))) (Test 𝓤 H A at-mem run .pre to-test)
+    goes-test : ent 𝓤 (sep 𝓤 (A .lft κ s) (sem 𝓤 H A (ShrRef (named 0) κ T.the-row .own x (vptr b o ∷ [])))) (Test 𝓤 H A at-mem run .pre to-test)
     goes-test =
-        qed W (‵ (flft (α ∷ []) fullShare) ∷ ‵ (ShrRef (named 0) (α ∷ []) T.the-row .own x (vptr b o ∷ [])) ∷ []) ∵
+        qed W (‵ (flft κ s) ∷ ‵ (ShrRef (named 0) κ T.the-row .own x (vptr b o ∷ [])) ∷ []) ∵
         nothing ! $ move ! (2 ∷ 0 ∷ []) $ fjoin ! $ nothing ! $ move ! (2 ∷ 0 ∷ []) $ join ! $ join ! $ frame ! $ done !
 
-    tested : (r : Bool) → ent 𝓤 (ensured 𝓤 H A test.ended (test.clauses 𝓤 H A at-mem run) (α ∷ [], tt) (x, tt) tt r) (fact 𝓤 (r ≡ wellFormed h))
-    tested r = exE 𝓤 _ (λ ws. snd∗ 𝓤 (sem 𝓤 H A (lasts test.ended (α ∷ [], tt) (x, tt) ws)) (fact 𝓤 (r ≡ wellFormed h)))
+    tested : (r : Bool) → ent 𝓤 (ensured 𝓤 H A test.ended (test.clauses 𝓤 H A at-mem run) (κ, tt) (x, tt) tt r) (fact 𝓤 (r ≡ wellFormed h))
+    tested r = exE 𝓤 _ (λ ws. snd∗ 𝓤 (sem 𝓤 H A (lasts test.ended (κ, tt) (x, tt) ws)) (fact 𝓤 (r ≡ wellFormed h)))
 
   abbrev to-no : No 𝓤 H A at-mem run .Ghost
   to-no = ((tt, tt, tt, tt, tt), tt)
@@ -121,16 +122,32 @@ module _ {M : Type 1} {𝓤 : URA M} {H : Heap 𝓤} {A : Atoms 𝓤} {K : Type 
         (‵ (fobs γ (T.the-row .coded .code h)) ∷ ‵ (fbor κ (Body (mem T.the-row) b o γ)) ∷ ‵ (flft κ s) ∷ Γ) (runs C Λ E (seq (call #nataqvoju·formed xs d) rest) q)
     tests t fm at-mem run known {xs} {d} {rest} h b o os = step (λ goes-on.
         open-ref t tt (mem T.the-row) {b = b} {o = o} $ lft-new t tt (λ α. move t (1 ∷ []) $
-        use1 W (later (some (λ (δ : GName). ‵ (ShrRef (named 0) (α ∷ []) T.the-row .own (x 𝓤 H A W at-mem run h b o α δ) (vptr b o ∷ [])) ⊛ ‵ (flent (α ∷ []) (partAt T.the-row fullShare h b o))))) (lends-shr 𝓤 H A W T.the-row (named 0) (α ∷ []) fullShare h b o) $ await t tt $ pick t (λ δ. split t $
+        use1 W (later (some (λ (δ : GName). ‵ (ShrRef (named 0) (α ∷ []) T.the-row .own (x 𝓤 H A W at-mem run h b o (α ∷ []) fullShare δ) (vptr b o ∷ [])) ⊛ ‵ (flent (α ∷ []) (partAt T.the-row fullShare h b o))))) (lends-shr 𝓤 H A W T.the-row (named 0) (α ∷ []) fullShare h b o) $ await t tt $ pick t (λ δ. split t $
         -- [the `&`; the lender's part; the new lifetime's token; the open borrow; obs; auth; …]
-        move t (2 ∷ 0 ∷ []) $ use2 W (raw (Test 𝓤 H A at-mem run .pre (to-test 𝓤 H A W at-mem run h b o α δ))) (goes-test 𝓤 H A W at-mem run h b o α δ) $
-        calls-at t fm (Test 𝓤 H A at-mem run) known (to-test 𝓤 H A W at-mem run h b o α δ) (os _ _ _ _ _) (λ v.
-        use1 W (later (some (λ (r : Bool). ((‵ (flft (α ∷ []) fullShare) ⊛ ‵ ftrue) ⊛ ‵ (bool .own r (v ∷ []))) ⊛ raw (ensured 𝓤 H A test.ended (test.clauses 𝓤 H A at-mem run) (α ∷ [], tt) (x 𝓤 H A W at-mem run h b o α δ, tt) tt r)))) (id⊢ 𝓤 _) $ await t tt $ pick t (λ r.
-        split t $ move t (1 ∷ []) $ use1 W (raw (fact 𝓤 (r ≡ wellFormed h))) (tested 𝓤 H A W at-mem run h b o α δ r) $ heard t (r ≡ wellFormed h) (λ e.
+        move t (2 ∷ 0 ∷ []) $ use2 W (raw (Test 𝓤 H A at-mem run .pre (to-test 𝓤 H A W at-mem run h b o (α ∷ []) fullShare δ))) (goes-test 𝓤 H A W at-mem run h b o (α ∷ []) fullShare δ) $
+        calls-at t fm (Test 𝓤 H A at-mem run) known (to-test 𝓤 H A W at-mem run h b o (α ∷ []) fullShare δ) (os _ _ _ _ _) (λ v.
+        use1 W (later (some (λ (r : Bool). ((‵ (flft (α ∷ []) fullShare) ⊛ ‵ ftrue) ⊛ ‵ (bool .own r (v ∷ []))) ⊛ raw (ensured 𝓤 H A test.ended (test.clauses 𝓤 H A at-mem run) (α ∷ [], tt) (x 𝓤 H A W at-mem run h b o (α ∷ []) fullShare δ, tt) tt r)))) (id⊢ 𝓤 _) $ await t tt $ pick t (λ r.
+        split t $ move t (1 ∷ []) $ use1 W (raw (fact 𝓤 (r ≡ wellFormed h))) (tested 𝓤 H A W at-mem run h b o (α ∷ []) fullShare δ r) $ heard t (r ≡ wellFormed h) (λ e.
         split t $ move t (1 ∷ []) $ facts t bool (Is bool) (shows 𝓤 H A bool) r (v ∷ []) (λ is.
         -- the lifetime is ended, the board comes back, and the borrow is closed: [the token and true; the lender's part; the open borrow; obs; auth; …]
         split t $ lft-end t tt $ move t (0 ∷ 2 ∷ []) $ lent-back t tt $ move t (0 ∷ 2 ∷ 3 ∷ 4 ∷ []) $ close-ref t tt (mem T.the-row) h {b = b} {o = o} $ move t (3 ∷ []) $ drop t $
         regoal t (λ (u : Val). lands C Λ E d u rest q) (ap only is ∙ ap vbool e) refl $ goes-on)))))))
+
+    -- the operand is read whatever the first three entries are, in which the board is lent on
+    pub asks : K → FmC 𝓤 H (W .laws) C → (at-mem : Memory → SProp 𝓤) (run : Routine → Fun 𝓤) → Triple 𝓤 (C #nataqvoju·formed) (Test 𝓤 H A at-mem run)
+        → {xs : List Operand} {d : Place} {rest : Code} {κ : Lft} {s : Share} {γ : GName} (h : Board) (b o : ℕ) → ((i j k : Item 𝓤) → Opds K W (i ∷ j ∷ k ∷ Γ) E xs (vptr b o ∷ []))
+        → Step K W (‵ (flft κ s) ∷ ‵ (fres γ (T.the-row .coded .code h)) ∷ ‵ (fshr-bor κ (λ q. partAt T.the-row q h b o)) ∷ Γ) (lands C Λ E d (vbool (wellFormed h)) rest q)
+        (‵ (flft κ s) ∷ ‵ (fres γ (T.the-row .coded .code h)) ∷ ‵ (fshr-bor κ (λ q. partAt T.the-row q h b o)) ∷ Γ) (runs C Λ E (seq (call #nataqvoju·formed xs d) rest) q)
+    asks t fm at-mem run known {xs} {d} {rest} {κ} {s} {γ} h b o os = step (λ goes-on.
+        move t (1 ∷ []) $ res-dup t $ move t (3 ∷ []) $ shr-bor-dup t $ feqI t (List Val) (vptr b o ∷ []) (vptr b o ∷ []) refl $ move t (0 ∷ 3 ∷ 1 ∷ []) $ fjoin3 t $
+        -- [the `&`; the shared borrow; the name's value; the token; …]
+        move t (3 ∷ 0 ∷ []) $ use2 W (raw (Test 𝓤 H A at-mem run .pre (to-test 𝓤 H A W at-mem run h b o κ s γ))) (goes-test 𝓤 H A W at-mem run h b o κ s γ) $
+        calls-at t fm (Test 𝓤 H A at-mem run) known (to-test 𝓤 H A W at-mem run h b o κ s γ) (os _ _ _) (λ v.
+        use1 W (later (some (λ (r : Bool). ((‵ (flft κ s) ⊛ ‵ ftrue) ⊛ ‵ (bool .own r (v ∷ []))) ⊛ raw (ensured 𝓤 H A test.ended (test.clauses 𝓤 H A at-mem run) (κ, tt) (x 𝓤 H A W at-mem run h b o κ s γ, tt) tt r)))) (id⊢ 𝓤 _) $ await t tt $ pick t (λ r.
+        split t $ move t (1 ∷ []) $ use1 W (raw (fact 𝓤 (r ≡ wellFormed h))) (tested 𝓤 H A W at-mem run h b o κ s γ r) $ heard t (r ≡ wellFormed h) (λ e.
+        split t $ move t (1 ∷ []) $ facts t bool (Is bool) (shows 𝓤 H A bool) r (v ∷ []) (λ is.
+        split t $ move t (1 ∷ []) $ drop t $ move t (0 ∷ 2 ∷ 1 ∷ []) $
+        regoal t (λ (u : Val). lands C Λ E d u rest q) (ap only is ∙ ap vbool e) refl $ goes-on)))))
 
     pub turns : K → FmC 𝓤 H (W .laws) C → (at-mem : Memory → SProp 𝓤) (run : Routine → Fun 𝓤) → Triple 𝓤 (C #nataqvoju·calls·refused) (No 𝓤 H A at-mem run) → {d : Place} {rest : Code}
         → ((r : Numbers) (v : Val) → r ≡ numbersOf (answer.Refused refusal.State) → Is R.the-row r (v ∷ []) → Seq K W (‵ (R.the-row .own r (v ∷ [])) ∷ Γ) (lands C Λ E d v rest q))

@@ -5,9 +5,10 @@ ghost use mathlib.Core.Bool.{true};
 ghost use Rattle.answers.specs.declared.Answer.the-variants as answer;
 ghost use Rattle.answers.specs.declared.Refusal.the-variants as refusal;
 ghost use Rattle.answers.specs.Numbers.{numbersOf};
+ghost use Rattle.board.specs.declared.Call.the-variants as call;
 ghost use Rattle.board.specs.Formed.{wellFormed};
-ghost use Rattle.board.specs.Step.{readingOf, writingOf, wiringOf, endingOf, advancingOf, deliveringOnBoard};
-ghost use Rattle.nataqvoju.specs.Lent.{outOf, resetTurn};
+ghost use Rattle.board.specs.Step.{readingOf, writingOf, wiringOf, endingOf, advancingOf, deliveringOnBoard, turnOf};
+ghost use Rattle.nataqvoju.specs.Lent.{outOf};
 use crate::Out;
 use answers::Answer;
 use answers::Numbers;
@@ -26,8 +27,9 @@ fn out(turn: Turn) -> Out
     }
 }
 
-pub fn reset(_b: Board) -> Out
-    ensures { λ r. ⌜ r ≡ outOf resetTurn ⌝ }
+// Whatever the board was.
+pub fn reset(b: Board) -> Out
+    ensures { λ r. ⌜ r ≡ outOf (turnOf b call.Reset) ⌝ }
 {
     Out {
         board: Board::reset(),

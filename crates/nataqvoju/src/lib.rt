@@ -6,7 +6,7 @@ ghost use mathlib.Core.Path.{_≡_};
 ghost use Rattle.board.specs.declared.Call.the-variants as call;
 ghost use Rattle.board.specs.Formed.{wellFormed};
 ghost use Rattle.board.specs.Step.{turnOf};
-ghost use Rattle.nataqvoju.specs.Lent.{Gives, resetTurn};
+ghost use Rattle.nataqvoju.specs.Lent.{Gives};
 use answers::Numbers;
 use board::Board;
 
@@ -26,7 +26,7 @@ fn formed(b: &Board) -> bool
 // Whatever was there.
 #[no_mangle]
 pub extern "C" fn nataqvoju_reset(b: &mut Board) -> Numbers
-    ensures { λ r. ⌜ Gives resetTurn (now (b .exit)) r ⌝ }
+    ensures { λ r. ⌜ Gives (turnOf (now (b .entry)) call.Reset) (now (b .exit)) r ⌝ }
 {
     let s = *b;
     let o = calls::reset(s);
@@ -34,10 +34,10 @@ pub extern "C" fn nataqvoju_reset(b: &mut Board) -> Numbers
     o.numbers
 }
 
-// Nothing is stored: a read leaves the board.
+// A read leaves the board, so it is lent to be looked at only.
 #[no_mangle]
-pub extern "C" fn nataqvoju_read(b: &mut Board, window: u64, width: u64, offset: u64) -> Numbers
-    ensures { λ r. ⌜ Gives (turnOf (now (b .entry)) (call.Read window width offset)) (now (b .exit)) r ⌝ }
+pub extern "C" fn nataqvoju_read(b: &Board, window: u64, width: u64, offset: u64) -> Numbers
+    ensures { λ r. ⌜ Gives (turnOf (now (b .entry)) (call.Read window width offset)) (now (b .entry)) r ⌝ }
 {
     if formed(b) {
         let s = *b;

@@ -1,7 +1,7 @@
 //! The clauses of "well formed", and how to break each alone.
 
-use peer::abi::{Board, Timer};
-use peer::random::Random;
+use crate::abi::{Board, Timer};
+use crate::random::Random;
 
 /// A clause.
 pub struct Clause {

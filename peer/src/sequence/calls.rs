@@ -1,7 +1,7 @@
 //! Random calls.
 
-use peer::abi::Call;
-use peer::random::Random;
+use crate::abi::Call;
+use crate::random::Random;
 
 /// One of each call but a reset, with arguments that are not refused.
 pub fn each(random: &mut Random) -> [Call; 8] {
@@ -25,6 +25,13 @@ pub fn each(random: &mut Random) -> [Call; 8] {
         Call::Advance { ticks },
         Call::Deliver,
     ]
+}
+
+/// Any call, a reset among them.
+pub fn any(random: &mut Random) -> Call {
+    let calls = each(random);
+    let choice = random.below(calls.len() as u64 + 1) as usize;
+    calls.get(choice).copied().unwrap_or(Call::Reset)
 }
 
 /// Arguments that a log can't have: cut to fewer bits, they would be others.

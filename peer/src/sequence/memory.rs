@@ -1,7 +1,7 @@
 //! Boards that nobody made on purpose: bits flipped, random memory.
 
-use peer::abi::{Board, Controller, Entries, Timer, Timers};
-use peer::random::Random;
+use crate::abi::{Board, Controller, Entries, Timer, Timers};
+use crate::random::Random;
 
 /// Turns one bit of one field.
 pub fn flip_bit(board: &mut Board, random: &mut Random) {
