@@ -1,5 +1,5 @@
 -- A firing strikes its one pin.
-use Prim.Native.Nat.{ℕ, _+_, _%_, _<_}
+use Prim.Native.Nat.{ℕ, _%_, _<_}
 use mathlib.Core.Path.{_≡_, refl, sym, ap, _∙_}
 use mathlib.Core.Bool.{Bool, true, false, _&&_, _||_}
 use mathlib.Core.List.{List}
@@ -11,7 +11,7 @@ use lib.Seq.{ext-getD, getD-set-same, getD-set-other}
 use mir.Val.{boolByte}
 use borrow.Author.Tests.{eq-eqb, ne-eqb}
 use Rattle.entries.specs.declared.Entries.{Entries}
-use Rattle.entries.specs.Strike.{struckBy}
+use Rattle.entries.specs.Strike.{pulse, rise, struckBy}
 use Rattle.entries.proofs.Pulse.{wired-same}
 use Rattle.entries.proofs.Strikes.{strike-none, strike-pulse, strike-rise}
 use Rattle.controller.specs.declared.Controller.{Controller}
@@ -83,7 +83,7 @@ module _ (b : Board) (z : Formed b) (m : ℕ) (l : m < 3) (on : isEnabled (b .ti
   unfolding strikeAt
   fire-strikes =
       by-cases b z m l (λ x. x ≡ withEntries c (struckBy e (strikeAt s m)))
-      (λ h. ap (withEntries c) (strike-pulse e (z .sized) p pin ∙ ap (λ (q : ℕ). struckBy e (256 + q)) (sym small) ∙ rw h))
+      (λ h. ap (withEntries c) (strike-pulse e (z .sized) p pin ∙ ap (λ (q : ℕ). struckBy e (pulse q)) (sym small) ∙ rw h))
       (λ h. go (raisesOf s m) refl h)
     where
       small : p % 256 ≡ p
@@ -92,7 +92,7 @@ module _ (b : Board) (z : Formed b) (m : ℕ) (l : m < 3) (on : isEnabled (b .ti
       go : (x : Bool) → raisesOf s m ≡ x → pulsesOf s m ≡ false → rewired c (wiresOf o (firedOf s m)) ≡ withEntries c (struckBy e (strikeAt s m))
       go true r h =
           ap (λ (v : List ℕ). rewired c v) (up r)
-          ∙ ap (withEntries c) (strike-rise e (z .sized) p pin ∙ ap (λ (q : ℕ). struckBy e (512 + q)) (sym small) ∙ rw (h, r))
+          ∙ ap (withEntries c) (strike-rise e (z .sized) p pin ∙ ap (λ (q : ℕ). struckBy e (rise q)) (sym small) ∙ rw (h, r))
       go false r h =
           ap (λ (v : List ℕ). rewired c v) (flat r)
           ∙ ap (withEntries c) (wired-same e (z .sized) ∙ sym (strike-none e 0 (omega arith)) ∙ rw (h, r))

@@ -1,6 +1,6 @@
 -- The calls as the code makes them, at the pins that can change: only inner functions cite these.
 -- `proofs/At.antt` has that on a well-formed board each is the call of `Step.antt`.
-use Prim.Native.Nat.{ℕ, _+_, _%_}
+use Prim.Native.Nat.{ℕ, _%_}
 use mathlib.Core.Bool.{cond, _||_}
 use mathlib.Core.List.{List, _∷_, []}
 use lib.Dec.{eqb, leb, ltb}
@@ -8,6 +8,7 @@ use lib.ListN.{getD, set}
 use mir.Val.{boolByte}
 use Rattle.answers.specs.declared.Answer.the-variants as answer
 use Rattle.answers.specs.declared.Refusal.the-variants as refusal
+use Rattle.entries.specs.Strike.{pulse, rise}
 use Rattle.controller.specs.Inner.{rewiredAt, struckOf}
 use Rattle.timers.specs.declared.Timers.{Timers}
 use Rattle.timers.specs.declared.Ran.{Ran}
@@ -35,7 +36,7 @@ wiringAt b pin level =
 
 -- timer m's strike, as the controller has it: a pulse of its pin's wire, or a rise of it, or neither
 unfoldable pub strikeAt : Timers → ℕ → ℕ
-strikeAt s m = cond (pulsesOf s m) (256 + routeOf s m % 256) (cond (raisesOf s m) (512 + routeOf s m % 256) 0)
+strikeAt s m = cond (pulsesOf s m) (pulse (routeOf s m % 256)) (cond (raisesOf s m) (rise (routeOf s m % 256)) 0)
 
 -- none, where it first fires at tick 0: never
 unfoldable pub strikeOf : Timers → ℕ → ℕ → ℕ

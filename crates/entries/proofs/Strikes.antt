@@ -2,7 +2,7 @@
 use mathlib.Core.Path.{_≡_, refl, sym, ap, _∙_}
 use mathlib.Core.Bool.{Bool, true, false, cond, _&&_}
 use mathlib.Core.List.{List}
-use Prim.Native.Nat.{ℕ, zero, suc, _+_, _%_, _<_, _≤_}
+use Prim.Native.Nat.{ℕ, zero, suc, _%_, _<_, _≤_}
 use native.Mathlib.Omega.{arith}
 use lib.Dec.{leb, ltb}
 use lib.ListN.{getD, set}
@@ -10,7 +10,7 @@ use borrow.Author.Tests.{le-leb, lt-leb, lt-ltb, le-ltb, leb-false, ltb-false}
 use Rattle.entries.specs.declared.Entries.{Entries}
 use Rattle.entries.specs.Table.{lowAt, levelAt, heldAt, withHeld, withLevel, wired, pulsed}
 use Rattle.entries.specs.Inner.{wiredAt}
-use Rattle.entries.specs.Strike.{pulsedAt, struckBy, struck, struckLevel, struckHeld}
+use Rattle.entries.specs.Strike.{pulsedAt, pulse, rise, struckBy, struck, struckLevel, struckHeld}
 use Rattle.entries.proofs.Sized.{Sized, wired-at-above}
 use Rattle.entries.proofs.Pulse.{wired-one}
 use Rattle.entries.proofs.One.{wired-at-sized, pulsed-one, pulsed-parts}
@@ -78,24 +78,24 @@ module _ (e : Entries) (z : Sized e) where
 
   -- what it does to the wires
   module _ (p : ℕ) (l : p < 24) where
-    pub strike-pulse : pulsed e (e .level) p ≡ struckBy e (256 + p)
+    pub strike-pulse : pulsed e (e .level) p ≡ struckBy e (pulse p)
     unfolding struckBy
     strike-pulse =
         pulsed-one e z p l
         ∙ ap (pulsedAt e) (sym here)
-        ∙ sym (rw (le-leb 256 (256 + p) (omega arith), lt-ltb (256 + p) 512 (omega arith)))
+        ∙ sym (rw (le-leb 256 (pulse p) (omega arith), lt-ltb (pulse p) 512 (omega arith)))
       where
-        here : (256 + p) % 256 ≡ p
+        here : pulse p % 256 ≡ p
         here = omega arith
 
-    pub strike-rise : wired e (set (e .level) p 1) ≡ struckBy e (512 + p)
+    pub strike-rise : wired e (set (e .level) p 1) ≡ struckBy e (rise p)
     unfolding struckBy
     strike-rise =
         wired-one e z p l 1
         ∙ ap (λ (q : ℕ). wiredAt e q 1) (sym here)
-        ∙ sym (rw (le-leb 256 (512 + p) (omega arith), le-ltb (512 + p) 512 (omega arith)))
+        ∙ sym (rw (le-leb 256 (rise p) (omega arith), le-ltb (rise p) 512 (omega arith)))
       where
-        here : (512 + p) % 256 ≡ p
+        here : rise p % 256 ≡ p
         here = omega arith
 
 -- the lists stay as long as they are

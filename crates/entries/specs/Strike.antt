@@ -1,6 +1,6 @@
 -- Strikes, for whoever's timers fire: only inner functions cite these.
 -- `proofs/One.antt` has that a strike is a change of the wires, or two.
-use Prim.Native.Nat.{ℕ, zero, suc, _%_}
+use Prim.Native.Nat.{ℕ, zero, suc, _+_, _%_}
 use mathlib.Core.Bool.{Bool, cond}
 use mathlib.Core.List.{List}
 use lib.Dec.{leb, ltb}
@@ -15,6 +15,12 @@ abbrev pub pulsedAt : Entries → ℕ → Entries
 pulsedAt e p = wiredAt (wiredAt e p 1) p (levelAt e p)
 
 -- a strike is a number: 256 and the pin for a pulse of its wire, 512 and the pin for a wire that rises; below 256 it is none
+abbrev pub pulse : ℕ → ℕ
+pulse p = 256 + p
+
+abbrev pub rise : ℕ → ℕ
+rise p = 512 + p
+
 unfoldable pub struckBy : Entries → ℕ → Entries
 struckBy e k = cond (leb 256 k) (cond (ltb k 512) (pulsedAt e (k % 256)) (wiredAt e (k % 256) 1)) e
 

@@ -1,5 +1,5 @@
-// Strikes: what timers that fire do to their pins, one after the other. A strike is a number, so that three of them cost no
-// more to hand over than three words: 256 and the pin for a pulse, 512 and the pin for a rise, anything below 256 for none.
+// Strikes: what timers that fire do to their pins, one after the other. A strike is one number, so that an array of them is
+// handed over: PULSE and the pin, or RISE and the pin; what is below PULSE is none.
 ghost use mathlib.Core.Path.{_≡_};
 ghost use Rattle.entries.specs.Strike.{struckLevel, struckHeld, struck};
 use crate::Entries;

@@ -1,6 +1,6 @@
-use Rattle.board.specs.At.{ordered}
 use borrow.Author.Needs.{needs}
 use borrow.Author.Tests.{lt-ltb, le-ltb}
+use Rattle.board.specs.At.{ordered}
 use Rattle.board.proofs.advance.ordered.Statement.{statement}
 use Rattle.board.proofs.advance.ordered.Tie as tie
 use Rattle.board.proofs.advance.ordered.Reads as reads

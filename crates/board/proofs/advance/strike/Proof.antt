@@ -1,8 +1,9 @@
-use Rattle.board.specs.At.{strikeAt, strikeOf}
-use Prim.Native.Nat.{ℕ, _+_, _%_}
+use Prim.Native.Nat.{ℕ, _%_}
 use mathlib.Core.Path.{sym, ap, _∙_}
 use borrow.Author.Needs.{needs}
 use borrow.Author.Tests.{eq-eqb, ne-eqb}
+use Rattle.entries.specs.Strike.{pulse, rise}
+use Rattle.board.specs.At.{strikeAt, strikeOf}
 use Rattle.board.proofs.advance.strike.Statement.{statement}
 use Rattle.board.proofs.advance.strike.Tie as tie
 use Rattle.board.proofs.advance.strike.Reads as reads
@@ -37,7 +38,7 @@ returns-2 : tie.Need-returns-2
 unfolding strikeOf strikeAt
 returns-2 c =
     let r = c .before .before in
-    rw (ne-eqb _ _ (r .before .if1 .left), sym (c .before .pulses .ensures) ∙ c .if2 .taken) (ap (λ (p : ℕ). 256 + p % 256) (r .route .ensures))
+    rw (ne-eqb _ _ (r .before .if1 .left), sym (c .before .pulses .ensures) ∙ c .if2 .taken) (ap (λ (p : ℕ). pulse (p % 256)) (r .route .ensures))
 
 raises-requires : tie.Need-raises-requires
 raises-requires c κs = search needs
@@ -49,7 +50,7 @@ returns-3 : tie.Need-returns-3
 unfolding strikeOf strikeAt
 returns-3 c =
     let p = c .before .before .before in
-    rw (ne-eqb _ _ (p .before .before .if1 .left), sym (p .pulses .ensures) ∙ c .before .before .if2 .left, sym (c .before .raises .ensures) ∙ c .if3 .taken) (ap (λ (p : ℕ). 512 + p % 256) (p .before .route .ensures))
+    rw (ne-eqb _ _ (p .before .before .if1 .left), sym (p .pulses .ensures) ∙ c .before .before .if2 .left, sym (c .before .raises .ensures) ∙ c .if3 .taken) (ap (λ (p : ℕ). rise (p % 256)) (p .before .route .ensures))
 
 returns-4 : tie.Need-returns-4
 unfolding strikeOf strikeAt

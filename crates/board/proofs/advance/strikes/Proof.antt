@@ -1,5 +1,5 @@
-use Rattle.board.specs.At.{strikesOf}
 use borrow.Author.Needs.{needs}
+use Rattle.board.specs.At.{strikesOf}
 use Rattle.board.proofs.advance.strikes.Statement.{statement}
 use Rattle.board.proofs.advance.strikes.Tie as tie
 use Rattle.board.proofs.advance.strikes.Reads as reads
