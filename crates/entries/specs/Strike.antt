@@ -1,5 +1,5 @@
 -- Strikes, for whoever's timers fire: only inner functions cite these.
--- `proofs/One.antt` has that a strike is a change of the wires, or two.
+-- `proofs/Strikes.antt` has that a strike is a change of the wires, or two.
 use Prim.Native.Nat.{ℕ, zero, suc, _+_, _%_}
 use mathlib.Core.Bool.{Bool, cond}
 use mathlib.Core.List.{List}
