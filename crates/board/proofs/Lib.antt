@@ -4,8 +4,8 @@ pub mod Wire
 pub mod Fire
 pub mod Turns
 pub mod Ticks
-pub mod Jumps
-pub mod Struck
+pub mod Order
+pub mod Strikes
 pub mod At
 pub mod Served
 pub mod Keeps

@@ -1,7 +1,7 @@
 // Wires, end of interrupt, delivery.
 ghost use mathlib.Core.Path.{_≡_};
 ghost use Rattle.controller.specs.Steps.{rewired, wireOf, afterEnd, endOf, deliveringOf, deliverOf};
-ghost use Rattle.controller.specs.Inner.{rewiredAt};
+ghost use Rattle.controller.specs.Inner.{rewiredAt, struckOf};
 use crate::Controller;
 use crate::Turn;
 use answers::Answer;
@@ -31,6 +31,16 @@ impl Controller {
         let entries = self.entries;
         let mut next = self;
         next.entries = entries.wired_at(n, level);
+        next
+    }
+
+    // Up to three pins are struck, one after the other.
+    pub fn struck(self, strikes: [u32; 3]) -> Controller
+        ensures { λ r. ⌜ r ≡ struckOf self strikes ⌝ }
+    {
+        let entries = self.entries;
+        let mut next = self;
+        next.entries = entries.struck(strikes);
         next
     }
 

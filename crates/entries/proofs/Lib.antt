@@ -6,4 +6,5 @@ pub mod Apart
 pub mod Delivery
 pub mod Gained
 pub mod One
+pub mod Strikes
 pub mod Edges

@@ -2,3 +2,4 @@ pub mod Word
 pub mod Pin
 pub mod Table
 pub mod Inner
+pub mod Strike
