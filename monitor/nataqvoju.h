@@ -165,9 +165,10 @@ static inline int nataqvoju_is_level(const NataqvojuBoard *board, unsigned pin) 
     return pin < 24 && (board->controller.entries.low[pin] >> 15 & 1) != 0;
 }
 
-/* In how many ticks a timer fires next: an advance by fewer fires none, by so many at least one. 0 if none fires, since the
- * block is disabled, or only in 2^64 ticks. For each timer that is (comparator - counter) modulo 2^64, or 2^32 in 32-bit
- * mode, where 0 stands for a whole turn: what is compared below is one less, which has no such case. */
+/* In how many ticks a timer fires next: an advance by fewer fires none, by so many exactly the timers that are due, each once.
+ * It may be more than UINT32_MAX, the most that one advance takes. 0 if none fires, since the block is disabled, or only in
+ * 2^64 ticks. For each timer that is (comparator - counter) modulo 2^64, or 2^32 in 32-bit mode, where 0 stands for a whole
+ * turn: what is compared below is one less, which has no such case. */
 static inline uint64_t nataqvoju_next_firing(const NataqvojuBoard *board) {
     uint64_t least = UINT64_MAX;
     int m;
