@@ -18,9 +18,10 @@
  *   - every call turns a well-formed board into one, ends, and reads and writes no other memory of the caller's.
  * What is measured and not proved: how long a call takes (docs/BENCHMARKS.md). No call walks ticks or firings one by one.
  * What is the caller's to see to:
- *   - `board` is not null, is aligned to 8 bytes and points to 288 bytes that may be read and written;
- *   - nothing else reads or writes those bytes during a call: one caller at a time for each board (different boards are
- *     independent, and may be used by different threads at once). The caller's own lock, if it needs one, goes around the call;
+ *   - `board` is not null, is aligned to 8 bytes and points to 288 bytes that may be read and written (by a read call: read);
+ *   - nothing else writes those bytes during a call, and nothing else reads them but another read call: one caller at a time
+ *     for each board (different boards are independent, and may be used by different threads at once). The caller's own lock,
+ *     if it needs one, goes around the call;
  *   - these declarations, and the C compiler that reads them, follow the platform's C calling convention (x86-64 System V).
  *
  * Layout: no byte is padding, every field is an unsigned number, little-endian as the machine is. So a board is saved,
@@ -165,9 +166,10 @@ static inline int nataqvoju_is_level(const NataqvojuBoard *board, unsigned pin) 
     return pin < 24 && (board->controller.entries.low[pin] >> 15 & 1) != 0;
 }
 
-/* In how many ticks a timer fires next: an advance by fewer fires none, by so many at least one. 0 if none fires, since the
- * block is disabled, or only in 2^64 ticks. For each timer that is (comparator - counter) modulo 2^64, or 2^32 in 32-bit
- * mode, where 0 stands for a whole turn: what is compared below is one less, which has no such case. */
+/* In how many ticks a timer fires next: an advance by fewer fires none, by so many exactly the timers that are due, each once.
+ * It may be more than UINT32_MAX, the most that one advance takes. 0 if none fires, since the block is disabled, or only in
+ * 2^64 ticks. For each timer that is (comparator - counter) modulo 2^64, or 2^32 in 32-bit mode, where 0 stands for a whole
+ * turn: what is compared below is one less, which has no such case. */
 static inline uint64_t nataqvoju_next_firing(const NataqvojuBoard *board) {
     uint64_t least = UINT64_MAX;
     int m;

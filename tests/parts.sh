@@ -24,6 +24,19 @@ cargo_tallied() {
     END { if (m == 0 && (n == 0 || status != 0)) m = 1; print n + 0, m + 0 }' "$1"
 }
 
+# check LABEL COMMAND ..: one check. What the command says goes to the file $said, and is shown if it fails.
+check() {
+  local label=$1
+  shift
+  if "$@" >"$said" 2>&1; then
+    passed=$((passed + 1))
+  else
+    failed=$((failed + 1))
+    echo "FAILED: $label"
+    tail -n 40 "$said"
+  fi
+}
+
 # step LABEL TALLY COMMAND ..: runs a command and adds what TALLY counts. Of its output the last $show lines are shown,
 # of a failing one more.
 step() {

@@ -126,14 +126,17 @@ static void save(Monitor *m, uint8_t bytes[SAVED]) {
     memcpy(bytes + sizeof mark + sizeof m->board, m->line, PINS);
 }
 
-/* The clock of the saved board is this monitor's now. 0 if the bytes are not what was saved, as far as can be told. */
+/* The clock of the saved board is this monitor's now. 0, and the monitor as it was, if the bytes are not what was saved, as far
+ * as can be told. */
 static int restore(Monitor *m, const uint8_t bytes[SAVED]) {
+    NataqvojuBoard board;
     if (memcmp(bytes, mark, sizeof mark) != 0) return 0;
-    memcpy(&m->board, bytes + sizeof mark, sizeof m->board);
-    memcpy(m->line, bytes + sizeof mark + sizeof m->board, PINS);
-    m->tick = clock_now;
+    memcpy(&board, bytes + sizeof mark, sizeof board);
     /* bytes that are no board get 5 from any call but a reset: ask now, not in the middle of the work */
-    if (nataqvoju_read(&m->board, NATAQVOJU_CONTROLLER, 4, NATAQVOJU_INDEX).number != NATAQVOJU_DONE) return 0;
+    if (nataqvoju_read(&board, NATAQVOJU_CONTROLLER, 4, NATAQVOJU_INDEX).number != NATAQVOJU_DONE) return 0;
+    m->board = board;
+    memcpy(m->line, bytes + sizeof mark + sizeof board, PINS);
+    m->tick = clock_now;
     settle(m);
     return 1;
 }

@@ -304,8 +304,8 @@ impl Board {
         self.controller.entries.low.get(usize::from(pin)).is_some_and(|low| low >> 15 & 1 == 1)
     }
 
-    /// In how many ticks a timer fires next: an advance by fewer fires none, by so many at least one. `None` if none fires,
-    /// since the block is disabled, or only in 2^64 ticks.
+    /// In how many ticks a timer fires next: an advance by fewer fires none, by so many exactly the timers that are due, each
+    /// once. It may be more than one advance takes. `None` if none fires, since the block is disabled, or only in 2^64 ticks.
     ///
     /// For each timer that is (comparator - counter) modulo 2^64, or 2^32 in 32-bit mode, where 0 stands for a whole turn.
     ///

@@ -77,19 +77,20 @@ impl Monitor {
         Ok(())
     }
 
-    // ---- what comes from outside
+    // ---- what comes from outside. An access that is refused is settled too: catching up may have made pins eligible.
 
     fn on_read(&mut self, window: Window, width: u64, offset: u64) -> Result<u64, Refusal> {
         self.catch_up()?;
-        let value = self.board.read(window, width, offset)?;
+        let answer = self.board.read(window, width, offset);
         self.settle()?;
-        Ok(value)
+        answer
     }
 
     fn on_write(&mut self, window: Window, width: u64, offset: u64, value: u64) -> Result<(), Refusal> {
         self.catch_up()?;
-        self.board.write(window, width, offset, value)?;
-        self.settle()
+        let answer = self.board.write(window, width, offset, value);
+        self.settle()?;
+        answer
     }
 
     fn on_line(&mut self, pin: usize, level: u8) -> Result<(), Refusal> {
