@@ -4,7 +4,7 @@
 --
 -- Turns      a tick turn by turn: turns-zero, turns-suc, turned-fires, turned-rests, turned-matches, turns-matches; fires-when, fires-on, fires-off;
 --            routes and pulses stay, statuses and wires only rise: turns-, tick-, ticks- with -pulses, -route, -risen, -drives;
---            firings-zero, firings-suc, first-zero, first-suc; ran-timers, ran-fired, ran-first, ran-counts, ran-firsts
+--            firings-zero, firings-suc, first-zero; ran-timers, ran-fired, ran-firsts
 -- Wires      risenOf (a firing moves no wire but by a pulse); counted- and fired- with -pulses, -route, -drives..; fired-risen, fired-risen-kept,
 --            fired-drives-same, fired-drives-more, fired-matches, pulses-risen
 -- First      first firings: first-le, first-kept, first-later, fires-first, first-fires, first-add

@@ -6,7 +6,7 @@ ghost use mathlib.Core.Path.{_≡_};
 ghost use mathlib.Core.Bool.{cond};
 ghost use Rattle.timer.specs.State.{flag};
 ghost use Rattle.timer.specs.Registers.{clearedOf};
-ghost use Rattle.timers.specs.State.{at, withTimer, resetTimers};
+ghost use Rattle.timers.specs.State.{at, resetTimers};
 ghost use Rattle.timers.specs.Formed.{wellFormed};
 ghost use Rattle.timers.specs.Registers.{timerRegister};
 ghost use Rattle.timers.specs.Inner.{timerPut};
@@ -103,18 +103,6 @@ impl Timers {
         }
         let t = self.timer;
         t[m]
-    }
-
-    // Another timer m.
-    fn with(self, m: usize, t: Timer) -> Timers
-        ensures { λ r. ⌜ r ≡ withTimer self m t ⌝ }
-    {
-        if Timers::COUNT <= m {
-            return self;
-        }
-        let mut next = self;
-        next.timer[m] = t;
-        next
     }
 }
 
