@@ -6,3 +6,4 @@ pub mod Apart
 pub mod Delivery
 pub mod One
 pub mod Edges
+pub mod ReadBack
