@@ -13,3 +13,5 @@ pub mod Held
 pub mod Demands
 pub mod Leaves
 pub mod Served
+pub mod Windows
+pub mod ControllerMap

@@ -50,6 +50,20 @@ module _ (c : Controller) where
     unfolding writingOf
     puts = rw (lt-ltb v (2 ^ 32) l)
 
+-- a write leaves the index
+pub written-index : (c : Controller) (i v : ℕ) → withIndex (writtenAt c i v) i ≡ writtenAt c i v
+unfolding dataWritten
+written-index c i v = go (eqb i 0) (ltb i 0x10) (leb 0x40 i)
+  where
+    go :
+        (x y z : Bool) →
+        withIndex (cond x (withId (withIndex c i) (v / 2 ^ 24 % 16)) (cond y (withIndex c i) (cond z (withIndex c i) (entryWritten (withIndex c i) (i - 0x10) v)))) i
+        ≡ cond x (withId (withIndex c i) (v / 2 ^ 24 % 16)) (cond y (withIndex c i) (cond z (withIndex c i) (entryWritten (withIndex c i) (i - 0x10) v)))
+    go true y z = refl
+    go false true z = refl
+    go false false true = refl
+    go false false false = refl
+
 -- ---- the places of an entry's words
 
 module _ (n : ℕ) where

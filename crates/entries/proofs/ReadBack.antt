@@ -61,6 +61,22 @@ in-place m a l k r s = omega arith
 abbrev pub word : ℕ → ℕ → ℕ → ℕ
 word v status remote = v % 2 ^ 12 + status * 2 ^ 12 + v / 2 ^ 13 % 2 * 2 ^ 13 + remote * 2 ^ 14 + v / 2 ^ 15 % 2 * 2 ^ 15 + v / 2 ^ 16 % 2 * 2 ^ 16
 
+sum-below : (m s a r l k : ℕ) → (m + s * 4096 + a * 8192 + r * 16384 + l * 32768 + k * 65536) % 4096 ≡ m % 4096
+sum-below m s a r l k = omega arith
+
+again : (v : ℕ) → v % 4096 % 4096 ≡ v % 4096
+again v = omega arith
+
+module _ (v s r : ℕ) where
+  word-below : word v s r % 4096 ≡ v % 4096
+  word-below = sum-below (v % 4096) s (v / 8192 % 2) r (v / 32768 % 2) (v / 65536 % 2) ∙ again v
+
+  pub word-vector : word v s r % 2 ^ 8 ≡ v % 2 ^ 8
+  word-vector = sym (vector-of (word v s r)) ∙ ap (λ (x : ℕ). x % 256) word-below ∙ vector-of v
+
+  pub word-logical : word v s r / 2 ^ 11 % 2 ≡ v / 2 ^ 11 % 2
+  word-logical = sym (logical-of (word v s r)) ∙ ap (λ (x : ℕ). x / 2048) word-below ∙ logical-of v
+
 shown-written : (w v : ℕ) (b : Bool) → shown (written w v) b ≡ word v (boolByte b) (w / 2 ^ 14 % 2)
 unfolding shown written writable
 shown-written w v b = go b ∙ ap (λ (y : ℕ). m + a * 8192 + y * 32768 + r * 16384 + boolByte b * 4096) bits ∙ in-place m a (v / 32768 % 2) (v / 65536 % 2) r (boolByte b)
