@@ -27,7 +27,7 @@ use Rattle.board.specs.Accesses.{select, index, put, get, lowWord, highW
 use Rattle.board.proofs.Formed.{Formed, formed-out}
 use Rattle.board.proofs.Keeps.{keeps, served}
 use Rattle.board.proofs.Served.{served-deliver}
-use Rattle.board.proofs.Windows.{indexes, gets, selects, puts}
+use Rattle.board.proofs.Windows.{same-value, indexes, gets, selects, puts}
 
 -- what index i reads
 abbrev pub reads : Board → ℕ → Answer
@@ -40,14 +40,6 @@ stored b i v = turnOf (turnOf b (select i) .board) (put v) .board
 -- w bits of v from bit k up, in their place
 abbrev pub bits : ℕ → ℕ → ℕ → ℕ
 bits k w v = v / 2 ^ k % 2 ^ w * 2 ^ k
-
-abbrev valueOf : Answer → ℕ
-valueOf answer.Done = 0
-valueOf (answer.Value v) = v
-valueOf (answer.Fired x y z) = 0
-valueOf (answer.Interrupt p v d l) = 0
-valueOf answer.Nothing = 0
-valueOf (answer.Refused r) = 0
 
 byte : (v : ℕ) → v < 2 ^ 32 → v / 2 ^ 24 ≡ v / 2 ^ 24 % 2 ^ 8
 byte v l = omega arith
@@ -125,7 +117,7 @@ module _ (b : Board) (z : Formed b) (v : ℕ) (l : v < 2 ^ 32) where
       after = sym (stored-is b z (lowWord n) (omega arith) v l)
 
       was : shownAt (b .controller) (lowWord n) ≡ r
-      was = ap valueOf (sym (shown b z (lowWord n) (omega arith)) ∙ e)
+      was = same-value _ _ (sym (shown b z (lowWord n) (omega arith)) ∙ e)
 
   -- "0x11+2n: entry n, high word: destination, bits 31:24"
   pub high-back : (n : ℕ) → n < 24 → answers b (select (highWord n) ∷ put v ∷ get ∷ []) ≡ ok ∷ ok ∷ value (bits 24 8 v) ∷ []
@@ -171,7 +163,7 @@ module _ (b : Board) (z : Formed b) where
       ∙ (λ k. answer.Interrupt p (was (lowWord p) low (omega arith) el k % 2 ^ 8) (was (highWord p) high (omega arith) eh k / 2 ^ 24) (was (lowWord p) low (omega arith) el k / 2 ^ 11 % 2))
     where
       was : (i n : ℕ) → i ≤ 255 → reads b i ≡ value n → shownAt (b .controller) i ≡ n
-      was i n h q = ap valueOf (sym (shown b z i h) ∙ q)
+      was i n h q = same-value _ _ (sym (shown b z i h) ∙ q)
 
 -- … and so of the words last written
 module _ (b : Board) (z : Formed b) (n v u : ℕ) (h : n < 24) (l : v < 2 ^ 32) (m : u < 2 ^ 32) where

@@ -15,3 +15,4 @@ pub mod Leaves
 pub mod Served
 pub mod Windows
 pub mod ControllerMap
+pub mod TimersMap

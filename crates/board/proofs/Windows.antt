@@ -1,26 +1,54 @@
 -- An access to window 0 is the controller's, one to window 1 the timers': what a call gives at each place of the two.
-use mathlib.Core.Path.{_≡_, ap, _∙_}
-use mathlib.Core.Bool.{true}
+use mathlib.Core.Path.{_≡_, refl, sym, ap, _∙_}
+use mathlib.Core.List.{List}
 use Prim.Native.Nat.{ℕ, _%_, _^_, _<_}
 use borrow.Author.Tests.{eq-eqb}
+use Rattle.answers.specs.declared.Answer.{Answer}
+use Rattle.answers.specs.declared.Answer.the-variants as answer
+use Rattle.entries.specs.declared.Entries.{Entries}
+use Rattle.entries.proofs.Pulse.{wired-same}
 use Rattle.controller.specs.declared.Controller.{Controller}
-use Rattle.controller.specs.State.{withIndex}
+use Rattle.controller.specs.State.{withIndex, withEntries}
+use Rattle.controller.specs.Steps.{rewired}
 use Rattle.controller.specs.Window.{dataRead, dataWritten, readingOf as controllerReading, writingOf as controllerWriting}
 use Rattle.controller.proofs.ReadBack.{reads-index, reads-data}
 use Rattle.controller.proofs.ReadBack.{selects as controller-selects, puts as controller-puts}
+use Rattle.timers.specs.declared.Timers.{Timers}
 use Rattle.timers.specs.Registers.{registerOf, writtenOf}
 use Rattle.timers.specs.Call.{readingOf as timersReading, writingOf as timersWriting}
 use Rattle.timers.proofs.Access.{reading-done, writing-done}
 use Rattle.board.specs.declared.Board.{Board}
 use Rattle.board.specs.declared.Call.the-variants as call
-use Rattle.board.specs.declared.Turn.{Turn}
-use Rattle.board.specs.State.{withController, turn}
+use Rattle.board.specs.State.{board, withController, turn}
 use Rattle.board.specs.Wires.{joined}
 use Rattle.board.specs.Step.{byController, byTimers, readingOf, writingOf, turnOf}
 use Rattle.board.specs.Accesses.{select, index, put, get, set, show, ok, value}
 use Rattle.board.proofs.Formed.{Formed, formed-out}
 use Rattle.board.proofs.Keeps.{served}
 use Rattle.board.proofs.Served.{served-read, served-write}
+
+-- a read's answer has one value
+abbrev valueOf : Answer → ℕ
+valueOf answer.Done = 0
+valueOf (answer.Value v) = v
+valueOf (answer.Fired x y z) = 0
+valueOf (answer.Interrupt p v d l) = 0
+valueOf answer.Nothing = 0
+valueOf (answer.Refused r) = 0
+
+pub same-value : (x y : ℕ) → value x ≡ value y → x ≡ y
+same-value x y = ap valueOf
+
+-- joined again, the same parts are the same board
+pub joined-same : (b : Board) → Formed b → joined (b .controller) (b .timers) (b .outside) ≡ b
+unfolding joined
+joined-same b z =
+    ap (λ (l : List ℕ). board (rewired (b .controller) l) (b .timers) (b .outside)) (sym (z .wired))
+    ∙ ap (λ (e : Entries). board (withEntries (b .controller) e) (b .timers) (b .outside)) (wired-same (b .controller .entries) (z .sized))
+
+pub joined-timers : (c : Controller) (s : Timers) (o : List ℕ) → joined c s o .timers ≡ s
+unfolding joined
+joined-timers c s o = refl
 
 module _ (b : Board) (z : Formed b) (w o : ℕ) where
   controller-reads : turnOf b (call.Read 0 w o) ≡ byController b (controllerReading (b .controller) w o)

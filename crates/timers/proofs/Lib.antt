@@ -33,3 +33,6 @@ pub mod Numbers
 pub mod Sheet
 pub mod Demands
 pub mod Decided
+pub mod Places
+pub mod ReadBack
+pub mod Others
