@@ -1,6 +1,6 @@
 -- The controller's registers, as calls of a well-formed board show them: document 01's table and its bits, over the numbers written and read.
-use mathlib.Core.Path.{_≡_, refl, sym, ap, _∙_}
-use mathlib.Core.Logic.{_⊎_, inl, inr}
+use mathlib.Core.Path.{_≡_, sym, ap, _∙_}
+use mathlib.Core.Logic.{_⊎_}
 use mathlib.Core.List.{[], _∷_}
 use Prim.Native.Nat.{ℕ, _+_, _*_, _/_, _%_, _^_, _<_, _≤_}
 use native.Mathlib.Omega.{arith}
@@ -11,7 +11,6 @@ use Rattle.answers.specs.declared.Answer.the-variants as answer
 use Rattle.entries.specs.Table.{eligibleAt}
 use Rattle.entries.proofs.ReadBack.{word, word-vector, word-logical}
 use Rattle.controller.specs.declared.Controller.{Controller}
-use Rattle.controller.specs.declared.Turn.{Turn as ControllerTurn}
 use Rattle.controller.specs.State.{withIndex}
 use Rattle.controller.specs.Window.{dataRead, dataWritten}
 use Rattle.controller.specs.Steps.{deliveringOf}
@@ -21,7 +20,7 @@ use Rattle.board.specs.declared.Board.{Board}
 use Rattle.board.specs.declared.Call.the-variants as call
 use Rattle.board.specs.declared.Turn.{Turn}
 use Rattle.board.specs.State.{withController, turn}
-use Rattle.board.specs.Step.{byController, deliveringOnBoard, turnOf}
+use Rattle.board.specs.Step.{deliveringOnBoard, turnOf}
 use Rattle.board.specs.Runs.{answers}
 use Rattle.board.specs.Accesses.{select, index, put, get, lowWord, highWord, ok, value}
 use Rattle.board.proofs.Formed.{Formed, formed-out}

@@ -1,6 +1,5 @@
 -- The accesses of a bench line or of a theorem, as calls, and the answers by short names.
 use Prim.Native.Nat.{ℕ, _+_, _*_}
-use mathlib.Core.List.{List, [], _∷_}
 use Rattle.answers.specs.declared.Answer.{Answer}
 use Rattle.answers.specs.declared.Answer.the-variants as answer
 use Rattle.board.specs.declared.Call.{Call}

@@ -1,5 +1,5 @@
 -- The register map and the rules beside the bench sheet, from reset: one table, one statement. Each line is worked by hand from document 01.
-use Prim.Native.Nat.{ℕ, _-_, _^_}
+use Prim.Native.Nat.{ℕ, _^_}
 use mathlib.Core.Path.{_≡_, refl}
 use mathlib.Core.List.{List, [], _∷_, _++_, map}
 use Rattle.answers.specs.declared.Answer.{Answer}

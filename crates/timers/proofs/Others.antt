@@ -2,7 +2,6 @@
 use Prim.Native.Nat.{ℕ, _+_, _*_, _<_}
 use mathlib.Core.Path.{_≡_, refl, sym, ap, _∙_}
 use mathlib.Core.Bool.{Bool, true, false, cond}
-use native.Mathlib.Omega.{arith}
 use lib.Dec.{eqb}
 use mir.Val.{boolByte}
 use borrow.Author.Tests.{eqb-true}
@@ -13,7 +12,7 @@ use Rattle.timer.proofs.ReadBack.{cleared-configuration, cleared-comparator, co
 use Rattle.timers.specs.declared.Timers.{Timers}
 use Rattle.timers.specs.State.{at, isEnabled, withCounter, withEnabled, withTimers, withTimer}
 use Rattle.timers.specs.Registers.{statusOf, registerOf, clearedBy, writtenOf}
-use Rattle.timers.proofs.Three.{at-three, at-with, at-other}
+use Rattle.timers.proofs.Three.{at-three, at-other}
 use Rattle.timers.proofs.Access.{read-capabilities, read-enabled, read-status, read-counter, write-enabled, write-status, write-counter}
 use Rattle.timers.proofs.Places.{Place, capabilities, enable, status, counter, configuration, comparator, unlisted, place, configuration-read, comparator-read, configuration-write, comparator-write, unlisted-read}
 

@@ -1,23 +1,14 @@
 -- The block's registers by their offsets: which there are, what each reads, and what a write to it does.
-use Prim.Native.Nat.{ℕ, _+_, _-_, _*_, _/_, _%_, _^_, _≤_, _<_}
-use mathlib.Core.Path.{_≡_, refl, sym, ap, _∙_}
-use mathlib.Core.Bool.{Bool, true, false, cond}
+use Prim.Native.Nat.{ℕ, _+_, _*_, _%_, _≤_, _<_}
+use mathlib.Core.Path.{_≡_, _∙_}
 use native.Mathlib.Omega.{arith}
-use native.Mathlib.Nat.{mod-lt}
 use native.Mathlib.Decide.{decLt, ℕ-discrete}
-use lib.Dec.{eqb, ltb, lit<}
-use mir.Val.{boolByte}
-use borrow.Author.Tests.{eq-eqb, ne-eqb}
-use Rattle.timer.specs.declared.Timer.{Timer}
-use Rattle.timer.specs.State.{flag, blank}
-use Rattle.timer.specs.Registers.{bit, placed, configurationOf, configuredOf, comparedOf, clearedOf}
-use Rattle.timer.proofs.ReadBack.{fields, flag-is}
+use borrow.Author.Tests.{ne-eqb}
+use Rattle.timer.specs.Registers.{configurationOf, configuredOf, comparedOf}
 use Rattle.timers.specs.declared.Timers.{Timers}
-use Rattle.timers.specs.State.{at, isEnabled, withCounter, withEnabled, withTimers, withTimer}
-use Rattle.timers.specs.Formed.{Formed}
-use Rattle.timers.specs.Registers.{numbered, statusOf, timerRegister, registerOf, clearedBy, timerWritten, writtenOf}
-use Rattle.timers.proofs.Three.{at-three, at-same, at-other}
-use Rattle.timers.proofs.Access.{read-below, read-above, read-timer, write-below, write-above, write-timer, read-enabled, read-status, read-counter, write-enabled, write-status, write-counter}
+use Rattle.timers.specs.State.{at, withTimer}
+use Rattle.timers.specs.Registers.{numbered, timerRegister, registerOf, timerWritten, writtenOf}
+use Rattle.timers.proofs.Access.{read-below, read-above, read-timer, write-below, write-above, write-timer}
 
 -- ---- a timer's two registers
 

@@ -1,24 +1,23 @@
 -- The block's registers: what a read gives after a write to the same offset, and what a write leaves of the others.
-use Prim.Native.Nat.{ℕ, zero, suc, _+_, _-_, _*_, _/_, _%_, _^_, _≤_, _<_}
+use Prim.Native.Nat.{ℕ, zero, suc, _+_, _-_, _*_, _/_, _%_, _^_, _<_}
 use mathlib.Core.Path.{_≡_, refl, sym, ap, ap₂, _∙_}
 use mathlib.Core.Bool.{Bool, true, false, cond}
 use native.Mathlib.Omega.{arith}
 use native.Mathlib.Nat.{mod-lt, mul-one, mul-zero}
-use native.Mathlib.Decide.{ℕ-discrete}
 use lib.Dec.{eqb, ltb, lit<}
 use mir.Val.{boolByte}
 use Rattle.timer.specs.declared.Timer.{Timer}
-use Rattle.timer.specs.State.{flag, blank}
-use Rattle.timer.specs.Registers.{bit, placed, configurationOf, configuredOf, comparedOf, clearedOf}
-use Rattle.timer.proofs.ReadBack.{fields, flag-is, cleared-status, cleared-configuration, cleared-comparator, compared-status, configured-comparator, configured-status, compared-configuration, one-shot-back, set-back, period-back}
+use Rattle.timer.specs.State.{flag}
+use Rattle.timer.specs.Registers.{bit, configurationOf, configuredOf, comparedOf, clearedOf}
+use Rattle.timer.proofs.ReadBack.{fields, flag-is, cleared-status, configured-comparator, compared-configuration, one-shot-back, set-back, period-back}
 use Rattle.timer.proofs.ReadBack.{configuration-back as timer-configuration-back}
 use Rattle.timers.specs.declared.Timers.{Timers}
-use Rattle.timers.specs.State.{at, isEnabled, withCounter, withEnabled, withTimers, withTimer}
+use Rattle.timers.specs.State.{at, isEnabled, withCounter, withEnabled, withTimers}
 use Rattle.timers.specs.Formed.{Formed}
 use Rattle.timers.specs.Registers.{statusOf, registerOf, clearedBy, writtenOf}
-use Rattle.timers.proofs.Three.{at-three, at-same, at-other}
-use Rattle.timers.proofs.Access.{read-capabilities, read-enabled, read-status, read-counter, write-enabled, write-status, write-counter}
-use Rattle.timers.proofs.Places.{Unlisted, Place, capabilities, enable, status, counter, configuration, comparator, unlisted, place, configuration-read, comparator-read, configuration-write, comparator-write, unlisted-read, unlisted-write, capabilities-write}
+use Rattle.timers.proofs.Three.{at-same}
+use Rattle.timers.proofs.Access.{read-enabled, read-status, read-counter, write-enabled, write-status, write-counter}
+use Rattle.timers.proofs.Places.{status, comparator, configuration-read, comparator-read, configuration-write, comparator-write}
 
 module _ (s : Timers) (v : ℕ) where
   -- "0x010: bit 0 enable. Other bits read 0."
