@@ -14,7 +14,7 @@ use Rattle.controller.specs.declared.Controller.{Controller}
 use Rattle.controller.specs.State.{withIndex}
 use Rattle.controller.specs.Window.{dataRead, dataWritten}
 use Rattle.controller.specs.Steps.{deliveringOf}
-use Rattle.controller.proofs.ReadBack.{shownAt, writtenAt, Unlisted, written-index, version-shown, arbitration-shown, others-shown, others-ignore, delivered-words}
+use Rattle.controller.proofs.ReadBack.{shownAt, writtenAt, Unlisted, written-index, version-shown, arbitration-shown, others-shown, others-ignore, delivery, delivered-words}
 use Rattle.controller.proofs.ReadBack.{id-back as id-stored, low-word-back, high-word-back, others-kept as others-stay}
 use Rattle.board.specs.declared.Board.{Board}
 use Rattle.board.specs.declared.Call.the-variants as call
@@ -76,7 +76,7 @@ module _ (b : Board) (z : Formed b) where
           ∙ ap (λ (x : Controller). value (dataRead x)) (sym (written-index c i v))) k
           ∷ []
 
-  by-controller : turnOf b call.Deliver .answer ≡ deliveringOf c .answer
+  pub by-controller : turnOf b call.Deliver .answer ≡ deliveringOf c .answer
   unfolding deliveringOnBoard
   by-controller = ap (λ (t : Turn). t .answer) (served b call.Deliver (formed-out b z) ∙ served-deliver b)
 
@@ -164,7 +164,7 @@ module _ (b : Board) (z : Formed b) where
       was : (i n : ℕ) → i ≤ 255 → reads b i ≡ value n → shownAt (b .controller) i ≡ n
       was i n h q = same-value _ _ (sym (shown b z i h) ∙ q)
 
--- … and so of the words last written
+-- … and so of the words written: Words.antt goes on from here to any later delivery
 module _ (b : Board) (z : Formed b) (n v u : ℕ) (h : n < 24) (l : v < 2 ^ 32) (m : u < 2 ^ 32) where
   abbrev low-stored : Board
   low-stored = stored b (lowWord n) v
@@ -172,11 +172,15 @@ module _ (b : Board) (z : Formed b) (n v u : ℕ) (h : n < 24) (l : v < 2 ^ 32) 
   abbrev both-stored : Board
   both-stored = stored low-stored (highWord n) u
 
-  pub delivered-written :
-      (vector destination logical : ℕ) → turnOf both-stored call.Deliver .answer ≡ answer.Interrupt n vector destination logical →
-      turnOf both-stored call.Deliver .answer ≡ answer.Interrupt n (v % 2 ^ 8) (u / 2 ^ 24) (v / 2 ^ 11 % 2)
-  delivered-written x d g e =
-      delivered-bits both-stored z2 n x d g (word v s r) (u / 2 ^ 24 * 2 ^ 24) e low high
+  z1 : Formed low-stored
+  z1 = stored-formed b z (lowWord n) (omega arith) v l
+
+  pub both-formed : Formed both-stored
+  both-formed = stored-formed low-stored z1 (highWord n) (omega arith) u m
+
+  pub written-delivery : delivery (both-stored .controller) n ≡ answer.Interrupt n (v % 2 ^ 8) (u / 2 ^ 24) (v / 2 ^ 11 % 2)
+  written-delivery =
+      (λ k. answer.Interrupt n (low k % 2 ^ 8) (high k / 2 ^ 24) (low k / 2 ^ 11 % 2))
       ∙ (λ k. answer.Interrupt n (word-vector v s r k) (cancel (u / 2 ^ 24) k) (word-logical v s r k))
     where
       s : ℕ
@@ -185,24 +189,17 @@ module _ (b : Board) (z : Formed b) (n v u : ℕ) (h : n < 24) (l : v < 2 ^ 32) 
       r : ℕ
       r = shownAt (b .controller) (lowWord n) / 2 ^ 14 % 2
 
-      z1 : Formed low-stored
-      z1 = stored-formed b z (lowWord n) (omega arith) v l
-
-      z2 : Formed both-stored
-      z2 = stored-formed low-stored z1 (highWord n) (omega arith) u m
-
       cancel : (x : ℕ) → x * 2 ^ 24 / 2 ^ 24 ≡ x
       cancel x = omega arith
 
-      low : reads both-stored (lowWord n) ≡ value (word v s r)
+      low : shownAt (both-stored .controller) (lowWord n) ≡ word v s r
       low =
-          others-kept low-stored z1 u m (highWord n) (lowWord n) (omega arith) (omega arith) (λ q. omega arith) (λ q. omega arith)
-          ∙ shown low-stored z1 (lowWord n) (omega arith)
-          ∙ ap (λ (y : Board). value (shownAt (y .controller) (lowWord n))) (stored-is b z (lowWord n) (omega arith) v l)
-          ∙ ap value (low-word-back (b .controller) v (z .sized) n h)
+          ap (λ (y : Board). shownAt (y .controller) (lowWord n)) (stored-is low-stored z1 (highWord n) (omega arith) u m)
+          ∙ others-stay (low-stored .controller) (highWord n) u (lowWord n) (λ q. omega arith) (λ q. omega arith)
+          ∙ ap (λ (y : Board). shownAt (y .controller) (lowWord n)) (stored-is b z (lowWord n) (omega arith) v l)
+          ∙ low-word-back (b .controller) v (z .sized) n h
 
-      high : reads both-stored (highWord n) ≡ value (u / 2 ^ 24 * 2 ^ 24)
+      high : shownAt (both-stored .controller) (highWord n) ≡ u / 2 ^ 24 * 2 ^ 24
       high =
-          shown both-stored z2 (highWord n) (omega arith)
-          ∙ ap (λ (y : Board). value (shownAt (y .controller) (highWord n))) (stored-is low-stored z1 (highWord n) (omega arith) u m)
-          ∙ ap value (high-word-back (low-stored .controller) u (z1 .sized) n h)
+          ap (λ (y : Board). shownAt (y .controller) (highWord n)) (stored-is low-stored z1 (highWord n) (omega arith) u m)
+          ∙ high-word-back (low-stored .controller) u (z1 .sized) n h

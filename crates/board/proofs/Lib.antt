@@ -16,3 +16,4 @@ pub mod Served
 pub mod Windows
 pub mod ControllerMap
 pub mod TimersMap
+pub mod Words

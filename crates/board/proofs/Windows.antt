@@ -60,11 +60,11 @@ module _ (b : Board) (z : Formed b) (w o : ℕ) where
   timers-reads = served b (call.Read 1 w o) (formed-out b z) ∙ served-read b 1 w o
 
   module _ (v : ℕ) where
-    controller-writes : turnOf b (call.Write 0 w o v) ≡ byController b (controllerWriting (b .controller) w o v)
+    pub controller-writes : turnOf b (call.Write 0 w o v) ≡ byController b (controllerWriting (b .controller) w o v)
     unfolding writingOf
     controller-writes = served b (call.Write 0 w o v) (formed-out b z) ∙ served-write b 0 w o v
 
-    timers-writes : turnOf b (call.Write 1 w o v) ≡ byTimers b (timersWriting (b .timers) w o v)
+    pub timers-writes : turnOf b (call.Write 1 w o v) ≡ byTimers b (timersWriting (b .timers) w o v)
     unfolding writingOf
     timers-writes = served b (call.Write 1 w o v) (formed-out b z) ∙ served-write b 1 w o v
 

@@ -1,3 +1,4 @@
 pub mod Formed
 pub mod Demands
 pub mod ReadBack
+pub mod Stays

@@ -228,7 +228,7 @@ module _ (c : Controller) where
   abbrev e : Entries
   e = c .entries
 
-  given-words : (p : ℕ) → p < 24 → given e p ≡ delivery c p
+  pub given-words : (p : ℕ) → p < 24 → given e p ≡ delivery c p
   given-words p l = rw (low-read c p l, high-read c p l) (given-shown e p)
 
   pub delivered-words : (p v d l : ℕ) → deliveringOf c .answer ≡ answer.Interrupt p v d l → (p < 24) × (deliveringOf c .answer ≡ delivery c p)

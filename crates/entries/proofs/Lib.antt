@@ -7,3 +7,4 @@ pub mod Delivery
 pub mod One
 pub mod Edges
 pub mod ReadBack
+pub mod Stays

@@ -22,10 +22,10 @@ shown-below w = omega arith
 shown-above : (w : ℕ) → (w - w / 4096 % 2 * 4096 + 4096) / 8192 ≡ w / 8192
 shown-above w = omega arith
 
-vector-of : (w : ℕ) → w % 4096 % 256 ≡ w % 256
+pub vector-of : (w : ℕ) → w % 4096 % 256 ≡ w % 256
 vector-of w = omega arith
 
-logical-of : (w : ℕ) → w % 4096 / 2048 ≡ w / 2048 % 2
+pub logical-of : (w : ℕ) → w % 4096 / 2048 ≡ w / 2048 % 2
 logical-of w = omega arith
 
 module _ (w : ℕ) where
