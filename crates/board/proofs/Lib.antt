@@ -15,3 +15,7 @@ pub mod Steps
 pub mod Gained
 pub mod Demands
 pub mod Leaves
+pub mod Windows
+pub mod ControllerMap
+pub mod TimersMap
+pub mod Words

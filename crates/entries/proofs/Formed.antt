@@ -155,7 +155,7 @@ module _ {w level held : ℕ} (g : PinGood w level held) where
 
 -- ---- a write
 
-fields-12 : (m a b d : ℕ) → m < 4096 → (m + a * 8192 + b * 32768 + d * 16384) / 4096 % 2 ≡ 0
+pub fields-12 : (m a b d : ℕ) → m < 4096 → (m + a * 8192 + b * 32768 + d * 16384) / 4096 % 2 ≡ 0
 fields-12 m a b d h = omega arith
 
 fields-15 : (m a b d : ℕ) → m < 4096 → a < 2 → d < 2 → (m + a * 8192 + b * 32768 + d * 16384) / 32768 ≡ b

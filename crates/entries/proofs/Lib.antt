@@ -8,3 +8,5 @@ pub mod Gained
 pub mod One
 pub mod Strikes
 pub mod Edges
+pub mod ReadBack
+pub mod Stays

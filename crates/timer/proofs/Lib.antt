@@ -16,3 +16,4 @@ pub mod Formed
 pub mod Kept
 pub mod Bits
 pub mod Written
+pub mod ReadBack

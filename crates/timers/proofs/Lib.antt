@@ -31,3 +31,6 @@ pub mod Advance
 pub mod Runs
 pub mod Decided
 pub mod Demands
+pub mod Places
+pub mod ReadBack
+pub mod Others
