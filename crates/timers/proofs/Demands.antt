@@ -134,7 +134,7 @@ module _ (s : Timers) (k : Call) where
   pub refused-empty : (answerNumber (turnOf s k .answer) ≡ 0 → ⊥) → numbersOf (turnOf s k .answer) ≡ bare (answerNumber (turnOf s k .answer))
   refused-empty = refused-bare (turnOf s k .answer)
 
-  -- "any two results allowed are equal"
+  -- "any two results allowed are equal" (a piece that is no call promises an equation too: one-result says it of any)
   pub one-turn : (r r' : Turn) → r ≡ turnOf s k → r' ≡ turnOf s k → r ≡ r'
   one-turn r r' = one-result
 
