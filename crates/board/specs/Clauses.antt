@@ -1,11 +1,10 @@
 -- "Well formed", clause by clause: boards that break one clause and no other, and boards that go as far as the clauses let them.
 use Prim.Native.Nat.{ℕ, _-_, _^_}
 use mathlib.Core.Path.{_≡_, refl}
-use mathlib.Core.Bool.{Bool, true, false}
+use mathlib.Core.Bool.{true, false}
 use mathlib.Core.List.{List, [], _∷_, map}
 use lib.ListN.{replicate, set}
 use Rattle.pins.specs.Pins.{tab, allFrom}
-use Rattle.entries.specs.declared.Entries.{Entries}
 use Rattle.entries.specs.Word.{levelOf, wordOk}
 use Rattle.entries.specs.Pin.{pinOk}
 use Rattle.entries.specs.Table.{resetEntries, withLow, withLevel, withHeld, entriesOk, levelsOk}
