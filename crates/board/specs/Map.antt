@@ -6,6 +6,7 @@ use Rattle.answers.specs.declared.Answer.{Answer}
 use Rattle.answers.specs.declared.Answer.the-variants as answer
 use Rattle.answers.specs.declared.Refusal.{Refusal}
 use Rattle.answers.specs.declared.Refusal.the-variants as refusal
+use Rattle.answers.specs.Sheet.{ok, value, fired, none}
 use Rattle.pins.specs.Pins.{tab, firstFrom, allFrom}
 use Rattle.entries.specs.Word.{modeOf, remoteOf, levelOf, maskedOf, withRemote, withoutRemote, writable, written, shown, wordOk}
 use Rattle.entries.specs.Pin.{asserted, makesEdge, heldAfter, eligible, endedWord, pinOk}
@@ -30,7 +31,7 @@ use Rattle.board.specs.Tick.{effect, turned, upTo, tick, firesIn, ticks,
 use Rattle.board.specs.Formed.{wellFormed}
 use Rattle.board.specs.Step.{readingOf, writingOf, wiringOf, endingOf, advancingOf, deliveringOnBoard, servedOf, turnOf}
 use Rattle.board.specs.Runs.{answers}
-use Rattle.board.specs.Accesses.{select, index, put, get, lowWord, highWord, set, show, ok, value, fired, pin, none}
+use Rattle.board.specs.Accesses.{select, index, put, get, lowWord, highWord, set, show}
 
 -- a call and its answer
 pub record Said : Type 0 where
@@ -46,6 +47,9 @@ done c = says c ok
 
 abbrev reads : Call → ℕ → Said
 reads c v = says c (value v)
+
+abbrev pin : ℕ → ℕ → ℕ → ℕ → Answer
+pin p v d l = answer.Interrupt p v d l
 
 abbrev gives : Answer → Said
 gives a = says call.Deliver a
