@@ -14,6 +14,9 @@
 -- Numbers    reading-, writing-, read-, write-, advance-number; exactly-0, -1, -2, -5; reading-, writing-refusing (same state, value 0, counts 0);
 --            advance-timers, advance-fired
 -- Access     what each offset reads and writes; reading-, writing- with -width, -offset, -done
+-- Places     the offsets that there are: what each reads, what a write to it does; Unlisted
+-- ReadBack   a read after a write to the same offset
+-- Others     what a write leaves of the other registers
 -- Portions   ticks-add, firings-add, ticks-total, firings-total
 -- Runs       SameBut, ticks-alike, firings-alike
 -- Each       each timer goes by itself: tick-on, tick-off, ticks-zero, ticks-suc, ticks-enabled, ticks-counter, ticks-at, fired-enabled, ..-three
