@@ -136,6 +136,15 @@ module _ (b : Board) (z : Formed b) (v n k : ℕ) (l : n < 3) (e : register b (c
       (λ (x : ℕ). fields (cond (ltb (v / 2 ^ 9 % 2 ^ 5) 24) (v / 2 ^ 9 % 2 ^ 5) (x / 2 ^ 9 % 2 ^ 5)) (v / 2 ^ 8 % 2) (v / 2 ^ 3 % 2 * (v / 2 ^ 6 % 2)) (v / 2 ^ 3 % 2) (v / 2 ^ 2 % 2) (v / 2 ^ 1 % 2))
       was)
 
+  -- "Writing edge type clears the status."
+  pub configuration-status :
+      (m r q : ℕ) → m < 3 → register b 0x020 ≡ value r → register (turnOf b (set (configuration n) v) .board) 0x020 ≡ value q →
+      q / 2 ^ m % 2 ≡ cond (eqb m n) (cond (eqb (v / 2 ^ 1 % 2) 1) (r / 2 ^ m % 2) 0) (r / 2 ^ m % 2)
+  configuration-status m r q h er eq =
+      ap (λ (x : ℕ). x / 2 ^ m % 2) (same-value _ _ (sym eq ∙ then b z (configuration n) a0 (omega arith) v 0x020 refl (omega arith)))
+      ∙ Back.configuration-status block f n l v m h
+      ∙ ap (λ (x : ℕ). cond (eqb m n) (cond (eqb (v / 2 ^ 1 % 2) 1) (x / 2 ^ m % 2) 0) (x / 2 ^ m % 2)) (is b z 0x020 refl (omega arith) r er)
+
   -- what is written as a comparator: "In 32-bit mode the written number is first reduced modulo 2^32."
   abbrev pub taken : ℕ
   taken = cond (eqb (k / 2 ^ 8 % 2) 1) (v % 2 ^ 32) v

@@ -12,6 +12,9 @@
 --            reset-formed; reading-timers, read-timers
 -- Decided    what the tests decide of a call: reading-decided, writing-decided, decided
 -- Access     what each offset reads and writes; reading-, writing- with -width, -offset, -done
+-- Places     the offsets that there are: what each reads, what a write to it does; Unlisted
+-- ReadBack   a read after a write to the same offset
+-- Others     what a write leaves of the other registers
 -- Advance    what an advance answers: advance-ticked, advance-timers, advance-fired
 -- Portions   ticks-add, firings-add, total
 -- Runs       SameBut, ticks-alike, firings-alike

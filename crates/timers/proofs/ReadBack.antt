@@ -6,16 +6,17 @@ use native.Mathlib.Omega.{arith}
 use native.Mathlib.Nat.{mod-lt, mul-one, mul-zero}
 use lib.Dec.{eqb, ltb, lit<}
 use mir.Val.{boolByte}
+use borrow.Author.Tests.{eqb-true}
 use Rattle.timer.specs.declared.Timer.{Timer}
 use Rattle.timer.specs.State.{flag}
 use Rattle.timer.specs.Registers.{bit, configurationOf, configuredOf, comparedOf, clearedOf}
-use Rattle.timer.proofs.ReadBack.{fields, flag-is, cleared-status, configured-comparator, compared-configuration, one-shot-back, set-back, period-back}
+use Rattle.timer.proofs.ReadBack.{fields, flag-is, cleared-status, configured-comparator, compared-configuration, configured-status, one-shot-back, set-back, period-back}
 use Rattle.timer.proofs.ReadBack.{configuration-back as timer-configuration-back}
 use Rattle.timers.specs.declared.Timers.{Timers}
 use Rattle.timers.specs.State.{at, isEnabled, withCounter, withEnabled, withTimers}
 use Rattle.timers.specs.Formed.{Formed}
 use Rattle.timers.specs.Registers.{statusOf, registerOf, clearedBy, writtenOf}
-use Rattle.timers.proofs.Three.{at-same}
+use Rattle.timers.proofs.Three.{at-with, at-same}
 use Rattle.timers.proofs.Access.{read-enabled, read-status, read-counter, write-enabled, write-status, write-counter}
 use Rattle.timers.proofs.Places.{status, comparator, configuration-read, comparator-read, configuration-write, comparator-write}
 
@@ -75,13 +76,27 @@ cleared-bit t zero l = sym (mul-one (boolByte (flag (t .status))))
 cleared-bit t (suc zero) l = ap (λ (n : ℕ). boolByte (flag n)) (cleared-status t) ∙ sym (mul-zero (boolByte (flag (t .status))))
 cleared-bit t (suc (suc x)) l = absurd (omega arith)
 
-module _ (s : Timers) (v : ℕ) where
-  abbrev st : ℕ → ℕ
-  st m = boolByte (flag (at s m .status))
+abbrev st : Timers → ℕ → ℕ
+st s m = boolByte (flag (at s m .status))
 
+-- bit m is timer m's status
+status-bit : (s : Timers) (m : ℕ) → m < 3 → registerOf s 0x020 / 2 ^ m % 2 ≡ st s m
+unfolding statusOf
+status-bit s m l = ap (λ (x : ℕ). x / 2 ^ m % 2) (read-status s 0x020 refl) ∙ go m l
+  where
+    lt : (m : ℕ) → st s m < 2
+    lt m = byte-lt (flag (at s m .status))
+
+    go : (m : ℕ) → m < 3 → (st s 2 * 2 ^ 2 + (st s 1 * 2 ^ 1 + st s 0 * 2 ^ 0)) / 2 ^ m % 2 ≡ st s m
+    go zero l = bit-0 (st s 0) (st s 1) (st s 2) (lt 0) (lt 1) (lt 2)
+    go (suc zero) l = bit-1 (st s 0) (st s 1) (st s 2) (lt 0) (lt 1) (lt 2)
+    go (suc (suc zero)) l = bit-2 (st s 0) (st s 1) (st s 2) (lt 0) (lt 1) (lt 2)
+    go (suc (suc (suc m))) l = absurd (omega arith)
+
+module _ (s : Timers) (v : ℕ) where
   -- timer m's bit, by what the register read
-  cleared-at : (m : ℕ) → registerOf s 0x020 / 2 ^ m % 2 ≡ st m → boolByte (flag (clearedBy v s m .status)) ≡ left m (registerOf s 0x020) v
-  cleared-at m e = cleared-bit (at s m) (bit m v) (mod-lt (v / 2 ^ m) (lit< tt)) ∙ ap (λ (x : ℕ). x * (1 - bit m v)) (sym e)
+  cleared-at : (m : ℕ) → m < 3 → boolByte (flag (clearedBy v s m .status)) ≡ left m (registerOf s 0x020) v
+  cleared-at m l = cleared-bit (at s m) (bit m v) (mod-lt (v / 2 ^ m) (lit< tt)) ∙ ap (λ (x : ℕ). x * (1 - bit m v)) (sym (status-bit s m l))
 
   pub status-back :
       registerOf (writtenOf s 0x020 v) 0x020 ≡ left 2 (registerOf s 0x020) v * 2 ^ 2 + (left 1 (registerOf s 0x020) v * 2 ^ 1 + left 0 (registerOf s 0x020) v * 2 ^ 0)
@@ -89,19 +104,7 @@ module _ (s : Timers) (v : ℕ) where
   status-back =
       ap (λ (x : Timers). registerOf x 0x020) (write-status s 0x020 v refl)
       ∙ read-status (withTimers s (clearedBy v s)) 0x020 refl
-      ∙ (λ k. cleared-at 2 two k * 2 ^ 2 + (cleared-at 1 one k * 2 ^ 1 + cleared-at 0 none k * 2 ^ 0))
-    where
-      lt : (m : ℕ) → st m < 2
-      lt m = byte-lt (flag (at s m .status))
-
-      none : registerOf s 0x020 / 2 ^ 0 % 2 ≡ st 0
-      none = ap (λ (x : ℕ). x / 2 ^ 0 % 2) (read-status s 0x020 refl) ∙ bit-0 (st 0) (st 1) (st 2) (lt 0) (lt 1) (lt 2)
-
-      one : registerOf s 0x020 / 2 ^ 1 % 2 ≡ st 1
-      one = ap (λ (x : ℕ). x / 2 ^ 1 % 2) (read-status s 0x020 refl) ∙ bit-1 (st 0) (st 1) (st 2) (lt 0) (lt 1) (lt 2)
-
-      two : registerOf s 0x020 / 2 ^ 2 % 2 ≡ st 2
-      two = ap (λ (x : ℕ). x / 2 ^ 2 % 2) (read-status s 0x020 refl) ∙ bit-2 (st 0) (st 1) (st 2) (lt 0) (lt 1) (lt 2)
+      ∙ (λ k. cleared-at 2 (omega arith) k * 2 ^ 2 + (cleared-at 1 (omega arith) k * 2 ^ 1 + cleared-at 0 (omega arith) k * 2 ^ 0))
 
 -- ---- a timer's two registers
 
@@ -140,6 +143,29 @@ module _ (s : Timers) (z : Formed s) (n : ℕ) (l : n < 3) (v : ℕ) where
       ∙ ap (λ (x : Timer). x .comparator) configured-at
       ∙ configured-comparator t (z .each n l) v
       ∙ ap (λ (x : ℕ). cond (eqb (bit 8 v) 1) (x % 2 ^ 32) x) (sym (comparator-read n l s))
+
+  -- "Writing edge type clears the status."
+  pub configuration-status :
+      (m : ℕ) → m < 3 →
+      registerOf (writtenOf s (0x100 + 0x20 * n) v) 0x020 / 2 ^ m % 2
+      ≡ cond (eqb m n) (cond (eqb (bit 1 v) 1) (registerOf s 0x020 / 2 ^ m % 2) 0) (registerOf s 0x020 / 2 ^ m % 2)
+  configuration-status m h =
+      status-bit (writtenOf s (0x100 + 0x20 * n) v) m h
+      ∙ ap (λ (x : Timers). st x m) (configuration-write n l s v)
+      ∙ ap (λ (x : Timer). boolByte (flag (x .status))) (at-with s n (configuredOf t v) m h)
+      ∙ go (eqb m n) refl
+      ∙ ap (λ (x : ℕ). cond (eqb m n) (cond (eqb (bit 1 v) 1) x 0) x) (sym (status-bit s m h))
+    where
+      level : (b : Bool) (x : ℕ) → boolByte (flag (cond b x 0)) ≡ cond b (boolByte (flag x)) 0
+      level true x = refl
+      level false x = refl
+
+      go : (b : Bool) → eqb m n ≡ b → boolByte (flag (cond b (configuredOf t v) (at s m) .status)) ≡ cond b (cond (eqb (bit 1 v) 1) (st s m) 0) (st s m)
+      go true e =
+          ap (λ (x : ℕ). boolByte (flag x)) (configured-status t (z .each n l) v)
+          ∙ level (eqb (bit 1 v) 1) (t .status)
+          ∙ ap (λ (k : ℕ). cond (eqb (bit 1 v) 1) (st s k) 0) (sym (eqb-true m n e))
+      go false e = refl
 
   compared-read : (x : ℕ) → comparedOf t v .comparator ≡ x → registerOf (writtenOf s (0x108 + 0x20 * n) v) (0x108 + 0x20 * n) ≡ x
   compared-read x e = comparator-read n l (writtenOf s (0x108 + 0x20 * n) v) ∙ ap (λ (y : Timer). y .comparator) compared-at ∙ e
