@@ -8,6 +8,7 @@ use native.Mathlib.Nat.{mod-eq-of-lt}
 use mir.Val.{boolByte}
 use Rattle.answers.specs.declared.Answer.{Answer}
 use Rattle.answers.specs.declared.Answer.the-variants as answer
+use Rattle.answers.specs.Sheet.{ok, value}
 use Rattle.entries.specs.Table.{eligibleAt}
 use Rattle.entries.proofs.ReadBack.{word, word-vector, word-logical}
 use Rattle.controller.specs.declared.Controller.{Controller}
@@ -22,7 +23,7 @@ use Rattle.board.specs.declared.Turn.{Turn}
 use Rattle.board.specs.State.{withController, turn}
 use Rattle.board.specs.Step.{deliveringOnBoard, turnOf}
 use Rattle.board.specs.Runs.{answers}
-use Rattle.board.specs.Accesses.{select, index, put, get, lowWord, highWord, ok, value}
+use Rattle.board.specs.Accesses.{select, index, put, get, lowWord, highWord}
 use Rattle.board.proofs.Formed.{Formed, formed-out}
 use Rattle.board.proofs.Keeps.{keeps, served}
 use Rattle.board.proofs.Served.{served-deliver}

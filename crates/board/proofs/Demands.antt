@@ -17,13 +17,11 @@ use Rattle.answers.proofs.Order.{only-if, if, Decided, done-decided, refused-de
 use Rattle.answers.proofs.Refused.{answerNumber, refused-bare, one-result}
 use Rattle.entries.specs.declared.Entries.{Entries}
 use Rattle.entries.specs.Table.{eligibleAt, given}
-use Rattle.entries.proofs.Pulse.{wired-same}
 use Rattle.entries.proofs.Delivery.{Lowest}
 use Rattle.controller.specs.declared.Controller.{Controller}
 use Rattle.controller.specs.declared.Turn.{Turn as ControllerTurn}
-use Rattle.controller.specs.State.{withEntries}
 use Rattle.controller.specs.Window.{readingOf as controllerReading, writingOf as controllerWriting}
-use Rattle.controller.specs.Steps.{afterEnd, rewired, deliveringOf, deliverOf}
+use Rattle.controller.specs.Steps.{afterEnd, deliveringOf, deliverOf}
 use Rattle.controller.proofs.Demands.{reading-decided, writing-decided, delivering-decided, deliver-served, delivers-only-if, delivers-if, none-only-if, none-if}
 use Rattle.timer.specs.declared.Timer.{Timer}
 use Rattle.timers.specs.declared.Timers.{Timers}
@@ -47,6 +45,7 @@ use Rattle.board.specs.Runs.{run, testsOf}
 use Rattle.board.proofs.Formed.{Sized, Formed, formed-in, formed-out}
 use Rattle.board.proofs.Ticks.{ticks-add, firings-add, ticks-formed, ticks-timers, ticks-firings}
 use Rattle.board.proofs.Keeps.{keeps, served, step-formed}
+use Rattle.board.proofs.Windows.{joined-same}
 
 -- ---- demand 1: "A bad width, address, pin, number, state or log record gets the refusal that document 01 names, exactly when 01 says so;
 -- the state handed back is the one that came in, … and a refused read gives zero."
@@ -82,15 +81,8 @@ module _ (b : Board) where
       go false false = refuses 1 ss refusal.Window refl
 
 module _ (b : Board) (z : Formed b) where
-  -- joined again, the same parts are the same board
-  joined-same : joined (b .controller) (b .timers) (b .outside) ≡ b
-  unfolding joined
-  joined-same =
-      ap (λ (l : List ℕ). board (rewired (b .controller) l) (b .timers) (b .outside)) (sym (z .wired))
-      ∙ ap (λ e. board (withEntries (b .controller) e) (b .timers) (b .outside)) (wired-same (b .controller .entries) (z .sized))
-
   timers-same : (s : Timers) → s ≡ b .timers → joined (b .controller) s (b .outside) ≡ b
-  timers-same s e = ap (λ (x : Timers). joined (b .controller) x (b .outside)) e ∙ joined-same
+  timers-same s e = ap (λ (x : Timers). joined (b .controller) x (b .outside)) e ∙ joined-same b z
 
   -- what is decided of the timers' turn is decided of the board's
   of-timers : (ts : List Test) (t : TimersTurn) → Decided Timers ts (b .timers) (t .timers) (t .answer) → DecidedTurn b ts (byTimers b t)

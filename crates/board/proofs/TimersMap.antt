@@ -6,6 +6,7 @@ use Prim.Native.Nat.{ℕ, _+_, _-_, _*_, _/_, _%_, _^_, _<_}
 use native.Mathlib.Omega.{arith}
 use lib.Dec.{eqb, ltb}
 use Rattle.answers.specs.declared.Answer.{Answer}
+use Rattle.answers.specs.Sheet.{ok, value}
 use Rattle.timer.proofs.ReadBack.{fields}
 use Rattle.timers.specs.declared.Timers.{Timers}
 use Rattle.timers.specs.Formed.{Formed as TimersFormed}
@@ -21,7 +22,7 @@ use Rattle.board.specs.State.{turn}
 use Rattle.board.specs.Wires.{joined}
 use Rattle.board.specs.Step.{turnOf}
 use Rattle.board.specs.Runs.{answers}
-use Rattle.board.specs.Accesses.{set, show, configuration, comparator, ok, value}
+use Rattle.board.specs.Accesses.{set, show, configuration, comparator}
 use Rattle.board.proofs.Formed.{Formed}
 use Rattle.board.proofs.Keeps.{keeps}
 use Rattle.board.proofs.Windows.{same-value, joined-same, joined-timers, shows, sets}

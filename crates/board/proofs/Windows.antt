@@ -5,6 +5,7 @@ use Prim.Native.Nat.{ℕ, _%_, _^_, _<_}
 use borrow.Author.Tests.{eq-eqb}
 use Rattle.answers.specs.declared.Answer.{Answer}
 use Rattle.answers.specs.declared.Answer.the-variants as answer
+use Rattle.answers.specs.Sheet.{ok, value}
 use Rattle.entries.specs.declared.Entries.{Entries}
 use Rattle.entries.proofs.Pulse.{wired-same}
 use Rattle.controller.specs.declared.Controller.{Controller}
@@ -22,7 +23,7 @@ use Rattle.board.specs.declared.Call.the-variants as call
 use Rattle.board.specs.State.{board, withController, turn}
 use Rattle.board.specs.Wires.{joined}
 use Rattle.board.specs.Step.{byController, byTimers, readingOf, writingOf, turnOf}
-use Rattle.board.specs.Accesses.{select, index, put, get, set, show, ok, value}
+use Rattle.board.specs.Accesses.{select, index, put, get, set, show}
 use Rattle.board.proofs.Formed.{Formed, formed-out}
 use Rattle.board.proofs.Keeps.{served}
 use Rattle.board.proofs.Served.{served-read, served-write}

@@ -1,4 +1,5 @@
--- A delivery's vector, destination and bit 11 are bits of the words last written, whatever calls came between.
+-- A delivery's vector, destination and bit 11 are bits of the two words written to its entry, the high one right after the low one, whatever
+-- calls came since that write nothing at the data window and don't reset.
 use Prim.Native.Nat.{ℕ, zero, suc, _/_, _%_, _^_, _<_}
 use mathlib.Core.Path.{_≡_, sym, subst, _∙_}
 use mathlib.Core.Bool.{Bool, true, false, cond}

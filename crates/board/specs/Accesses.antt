@@ -1,7 +1,5 @@
--- The accesses of a bench line or of a theorem, as calls, and the answers by short names.
+-- The accesses of a bench line or of a theorem, as calls.
 use Prim.Native.Nat.{ℕ, _+_, _*_}
-use Rattle.answers.specs.declared.Answer.{Answer}
-use Rattle.answers.specs.declared.Answer.the-variants as answer
 use Rattle.board.specs.declared.Call.{Call}
 use Rattle.board.specs.declared.Call.the-variants as call
 
@@ -40,20 +38,3 @@ configuration n = 0x100 + 0x20 * n
 
 abbrev pub comparator : ℕ → ℕ
 comparator n = 0x108 + 0x20 * n
-
--- ---- answers
-
-abbrev pub ok : Answer
-ok = answer.Done
-
-abbrev pub value : ℕ → Answer
-value v = answer.Value v
-
-abbrev pub fired : ℕ → ℕ → ℕ → Answer
-fired a b c = answer.Fired a b c
-
-abbrev pub pin : ℕ → ℕ → ℕ → ℕ → Answer
-pin p v d l = answer.Interrupt p v d l
-
-abbrev pub none : Answer
-none = answer.Nothing

@@ -6,6 +6,7 @@ use Rattle.answers.specs.declared.Answer.{Answer}
 use Rattle.answers.specs.declared.Answer.the-variants as answer
 use Rattle.answers.specs.declared.Refusal.{Refusal}
 use Rattle.answers.specs.declared.Refusal.the-variants as refusal
+use Rattle.answers.specs.Sheet.{ok, value, fired, none}
 use Rattle.pins.specs.Pins.{tab, firstFrom, allFrom}
 use Rattle.entries.specs.Word.{modeOf, remoteOf, levelOf, maskedOf, withRemote, withoutRemote, writable, written, shown, wordOk}
 use Rattle.entries.specs.Pin.{asserted, makesEdge, heldAfter, eligible, endedWord, pinOk}
@@ -30,7 +31,7 @@ use Rattle.board.specs.Tick.{effect, turned, upTo, tick, firesIn, ticks,
 use Rattle.board.specs.Formed.{wellFormed}
 use Rattle.board.specs.Step.{readingOf, writingOf, wiringOf, endingOf, advancingOf, deliveringOnBoard, servedOf, turnOf}
 use Rattle.board.specs.Runs.{answers}
-use Rattle.board.specs.Accesses.{select, index, put, get, lowWord, highWord, set, show, ok, value, fired, pin, none}
+use Rattle.board.specs.Accesses.{select, index, put, get, lowWord, highWord, set, show}
 
 -- a call and its answer
 pub record Said : Type 0 where
@@ -46,6 +47,9 @@ done c = says c ok
 
 abbrev reads : Call → ℕ → Said
 reads c v = says c (value v)
+
+abbrev pin : ℕ → ℕ → ℕ → ℕ → Answer
+pin p v d l = answer.Interrupt p v d l
 
 abbrev gives : Answer → Said
 gives a = says call.Deliver a
@@ -121,9 +125,9 @@ sheet =
     -- M9 vector, destination and bit 11 are those bits of the two words
     ∷ (to (highWord 20) 0x96FFFFFF ++ entry 20 0x8C3 ++ wire 20 1 ∷ reads get 0x18C3 ∷ gives (pin 20 0xC3 0x96 1) ∷ reads get 0x8C3
     ∷ to (highWord 21) 0x69000000 ++ entry 21 0xC4 ++ wire 21 1 ∷ gives (pin 21 0xC4 0x69 0) ∷ gives none ∷ [])
-    -- M10 another delivery mode holds the edge and is not eligible; bit 11 is no part of the mode
+    -- M10 another delivery mode holds the edge and is not eligible, nor is a level pin; bit 11 is no part of the mode
     ∷ (entry 1 0x131 ++ wire 1 1 ∷ reads get 0x131 ∷ gives none ∷ done (put 0x231) ∷ gives none ∷ done (put 0x431) ∷ gives none
-    ∷ keeps 0x831 0x1831 ++ gives (pin 1 0x31 0 1) ∷ [])
+    ∷ keeps 0x831 0x1831 ++ gives (pin 1 0x31 0 1) ∷ entry 2 0x8132 ++ wire 2 1 ∷ reads get 0x8132 ∷ gives none ∷ keeps 0x8032 0x9032 ++ gives (pin 2 0x32 0 0) ∷ [])
     -- M11 an active-low edge pin: the write makes no edge, nor does the next step; the fall does
     ∷ (entry 8 0x2038 ++ gives none ∷ wire 9 1 ∷ gives none ∷ wire 8 1 ∷ gives none ∷ wire 8 0 ∷ gives (pin 8 0x38 0 0) ∷ gives none ∷ [])
     -- M12 an active-low level pin is asserted while its wire is low
@@ -133,14 +137,15 @@ sheet =
     ∷ end 10 ∷ reads get 0xC041 ∷ gives none ∷ end 0x41 ∷ reads get 0x9041 ∷ gives (pin 10 0x41 0 0) ∷ [])
     -- M14 an end frees every level entry with the vector, and no other
     ∷ (entry 3 0x8050 ++ entry 11 0x8050 ++ entry 12 0x8051 ++ wire 3 1 ∷ wire 11 1 ∷ wire 12 1 ∷ gives (pin 3 0x50 0 0)
-    ∷ gives (pin 11 0x50 0 0) ∷ gives (pin 12 0x51 0 0)
-    ∷ gives none ∷ end 0x50 ∷ gives (pin 3 0x50 0 0) ∷ gives (pin 11 0x50 0 0) ∷ gives none ∷ [])
-    -- M15 an end leaves an edge entry's remote IRR, which is back when the entry is level again
-    ∷ (entry 3 0x8050 ++ wire 3 1 ∷ gives (pin 3 0x50 0 0) ∷ keeps 0x0050 0x4050 ++ end 0x50 ∷ reads get 0x4050 ∷ keeps 0x8050 0xC050
-    ++ gives none ∷ end 0x50 ∷ reads get 0x9050 ∷ [])
-    -- M16 remote IRR survives a write; the present vector frees it
+    ∷ gives (pin 11 0x50 0 0) ∷ gives (pin 12 0x51 0 0) ∷ gives none ∷ end 0x50 ∷ gives (pin 3 0x50 0 0) ∷ gives (pin 11 0x50 0 0) ∷ gives none ∷ [])
+    -- M15 an end leaves an edge entry's remote IRR, which hinders no edge and is back when the entry is level again
+    ∷ (entry 3 0x8050 ++ wire 3 1 ∷ gives (pin 3 0x50 0 0) ∷ keeps 0x0050 0x4050 ++ end 0x50 ∷ reads get 0x4050
+    ∷ wire 3 0 ∷ wire 3 1 ∷ reads get 0x5050 ∷ gives (pin 3 0x50 0 0) ∷ reads get 0x4050
+    ∷ keeps 0x8050 0xC050 ++ gives none ∷ end 0x50 ∷ reads get 0x9050 ∷ [])
+    -- M16 remote IRR survives a write and a fall of the wire; the present vector frees it, masked or not, asserted or not
     ∷ (entry 15 0x8061 ++ wire 15 1 ∷ gives (pin 15 0x61 0 0) ∷ keeps 0x8062 0xC062 ++ end 0x61 ∷ gives none ∷ end 0x62
-    ∷ gives (pin 15 0x62 0 0) ∷ [])
+    ∷ gives (pin 15 0x62 0 0) ∷ wire 15 0 ∷ reads get 0xC062 ∷ wire 15 1 ∷ gives none
+    ∷ wire 15 0 ∷ keeps 0x18062 0x1C062 ++ end 0x62 ∷ reads get 0x18062 ∷ keeps 0x8062 0x8062 ++ wire 15 1 ∷ gives (pin 15 0x62 0 0) ∷ [])
     -- M17 a masked level pin waits
     ∷ (entry 13 0x18033 ++ wire 13 1 ∷ reads get 0x18033 ∷ gives none ∷ keeps 0x8033 0x9033 ++ gives (pin 13 0x33 0 0) ∷ [])
     -- M18 a held edge stays over masking
@@ -163,8 +168,7 @@ sheet =
     ∷ reads (show 0x108) ones ∷ reads (show 0x128) ones ∷ reads (show 0x148) ones ∷ reads (show 0x020) 0 ∷ [])
     -- M25 a configuration, bit by bit: 1, 2, 3, 8 and a route up to 23; 6 with 3 only
     ∷ (sets 0x140 0x01 0x00FFFFFF00000030 ++ sets 0x140 0x02 0x00FFFFFF00000032 ++ sets 0x140 0x04 0x00FFFFFF00000034
-    ++ sets 0x140 0x08 0x00FFFFFF00000038
-    ++ sets 0x140 0x40 0x00FFFFFF00000030 ++ sets 0x140 0x48 0x00FFFFFF00000078 ++ sets 0x140 0x80 0x00FFFFFF00000030
+    ++ sets 0x140 0x08 0x00FFFFFF00000038 ++ sets 0x140 0x40 0x00FFFFFF00000030 ++ sets 0x140 0x48 0x00FFFFFF00000078 ++ sets 0x140 0x80 0x00FFFFFF00000030
     ++ sets 0x140 0x100 0x00FFFFFF00000130
     ++ sets 0x140 0x200 0x00FFFFFF00000230 ++ sets 0x140 0xFFFFFFFFFFFFC000 0x00FFFFFF00000030 ++ sets 0x140 0x2E00 0x00FFFFFF00002E30)
     -- M26 a route above 23 keeps the old one; the other bits are taken, in this timer alone
@@ -179,7 +183,7 @@ sheet =
     ∷ reads (show 0x128) 0x76543210 ∷ done (set 0x120 0) ∷ reads (show 0x128) 0x76543210 ∷ [])
     -- M29 … the period too
     ∷ (done (set 0x100 0x48) ∷ done (set 0x108 0x100000002) ∷ done (set 0x100 0x108) ∷ done (set 0x100 0x008) ∷ reads (show 0x108) 2
-    ∷ enabled ∷ ticked 2 1 0 0 ∷ reads (show 0x108) 4 ∷ [])
+    ∷ done (set 0x120 0x148) ∷ done (set 0x128 0x100000003) ∷ enabled ∷ ticked 2 1 0 0 ∷ reads (show 0x108) 4 ∷ ticked 1 0 1 0 ∷ reads (show 0x128) 6 ∷ [])
     -- M30 periodic, bit 6: the first write sets comparator and period and clears bit 6, the second the period
     ∷ (sets 0x100 0x48 0x00FFFFFF00000078 ++ sets 0x108 7 7 ++ reads (show 0x100) 0x00FFFFFF00000038 ∷ sets 0x108 3 7 ++ enabled
     ∷ ticked 7 1 0 0 ∷ reads (show 0x108) 10 ∷ [])
@@ -188,12 +192,10 @@ sheet =
     ∷ enabled ∷ ticked 1 0 0 1 ∷ reads (show 0x148) 6 ∷ [])
     -- M32 a firing level timer sets its status bit, whatever its interrupt enable; writing 1 clears it
     ∷ (done (set 0x100 2) ∷ done (set 0x120 2) ∷ done (set 0x140 2) ∷ done (set 0x108 1) ∷ done (set 0x128 2) ∷ done (set 0x148 1) ∷ enabled
-    ∷ ticked 1 1 0 1 ∷ reads (show 0x020) 5
-    ∷ sets 0x020 1 4 ++ sets 0x020 0xFFFFFFFFFFFFFFFB 4 ++ sets 0x020 4 0 ++ ticked 1 0 1 0 ∷ reads (show 0x020) 2 ∷ sets 0x020 2 0)
+    ∷ ticked 1 1 0 1 ∷ reads (show 0x020) 5 ∷ sets 0x020 1 4 ++ sets 0x020 0xFFFFFFFFFFFFFFFB 4 ++ sets 0x020 4 0 ++ ticked 1 0 1 0 ∷ reads (show 0x020) 2 ∷ sets 0x020 2 0)
     -- M33 writing edge type clears it; an edge timer sets none
     ∷ (done (set 0x120 2) ∷ done (set 0x128 1) ∷ done (set 0x148 1) ∷ enabled ∷ ticked 1 0 1 1 ∷ reads (show 0x020) 2 ∷ done (set 0x120 6)
-    ∷ reads (show 0x020) 2 ∷ done (set 0x120 4) ∷ reads (show 0x020) 0 ∷ done (set 0x120 6)
-    ∷ reads (show 0x020) 0 ∷ [])
+    ∷ reads (show 0x020) 2 ∷ done (set 0x120 4) ∷ reads (show 0x020) 0 ∷ done (set 0x120 6) ∷ reads (show 0x020) 0 ∷ [])
     -- M34 offsets not listed read 0 and ignore writes
     ∷ (sets 0x008 digits 0 ++ sets 0x018 digits 0 ++ sets 0x028 digits 0 ++ sets 0x0E8 digits 0 ++ sets 0x0F8 digits 0
     ++ sets 0x110 digits 0 ++ sets 0x118 digits 0 ++ sets 0x138 digits 0 ++ sets 0x160 digits 0

@@ -1,5 +1,5 @@
 -- The bench sheet, B1 to B12, from reset: one table, one statement.
-use Prim.Native.Nat.{ℕ, _+_, _-_, _*_, _^_}
+use Prim.Native.Nat.{ℕ, _-_, _^_}
 use mathlib.Core.Path.{_≡_, refl}
 use mathlib.Core.Bool.{true}
 use mathlib.Core.List.{List, [], _∷_, _++_, map}
@@ -31,6 +31,7 @@ use Rattle.board.specs.Tick.{effect, turned, upTo, tick, firesIn, ticks,
 use Rattle.board.specs.Formed.{wellFormed}
 use Rattle.board.specs.Step.{readingOf, writingOf, wiringOf, endingOf, advancingOf, deliveringOnBoard, servedOf, turnOf}
 use Rattle.board.specs.Runs.{answers}
+use Rattle.board.specs.Accesses.{select, put, get, lowWord, set, show}
 
 pub record Line : Type 0 where
   pub calls : List Call
@@ -39,28 +40,9 @@ pub record Line : Type 0 where
 abbrev line : List Call → List Answer → Line
 line c a = record { calls = c; answered = a }
 
--- ---- the controller's window: the index is selected, the data window written or read
-
-abbrev select : ℕ → Call
-select i = call.Write 0 4 0 i
-
-abbrev put : ℕ → Call
-put v = call.Write 0 4 0x10 v
-
-abbrev get : Call
-get = call.Read 0 4 0x10
-
--- entry n's low word
+-- the index is selected, and entry n's low word written
 abbrev entry : ℕ → ℕ → List Call
-entry n v = select (0x10 + 2 * n) ∷ put v ∷ []
-
--- ---- the timers' window
-
-abbrev set : ℕ → ℕ → Call
-set offset v = call.Write 1 8 offset v
-
-abbrev show : ℕ → Call
-show offset = call.Read 1 8 offset
+entry n v = select (lowWord n) ∷ put v ∷ []
 
 abbrev enable : Call
 enable = set 0x010 1
