@@ -18,9 +18,10 @@
  *   - every call turns a well-formed board into one, ends, and reads and writes no other memory of the caller's.
  * What is measured and not proved: how long a call takes (docs/BENCHMARKS.md). No call walks ticks or firings one by one.
  * What is the caller's to see to:
- *   - `board` is not null, is aligned to 8 bytes and points to 288 bytes that may be read and written;
- *   - nothing else reads or writes those bytes during a call: one caller at a time for each board (different boards are
- *     independent, and may be used by different threads at once). The caller's own lock, if it needs one, goes around the call;
+ *   - `board` is not null, is aligned to 8 bytes and points to 288 bytes that may be read and written (by a read call: read);
+ *   - nothing else writes those bytes during a call, and nothing else reads them but another read call: one caller at a time
+ *     for each board (different boards are independent, and may be used by different threads at once). The caller's own lock,
+ *     if it needs one, goes around the call;
  *   - these declarations, and the C compiler that reads them, follow the platform's C calling convention (x86-64 System V).
  *
  * Layout: no byte is padding, every field is an unsigned number, little-endian as the machine is. So a board is saved,
@@ -38,7 +39,8 @@ extern "C" {
 
 /* ---- the state: 288 bytes, alignment 8 ---- */
 
-/* One timer. Flags are 0 or 1. */
+/* One timer. Flags are 0 or 1. A level-type timer's line is active high: with its interrupt enabled and the block enabled,
+ * it holds the wire of its pin high as long as its status is 1. */
 typedef struct {
     uint64_t comparator;     /* below 2^32 in 32-bit mode */
     uint64_t period;         /* below 2^32 in 32-bit mode */
@@ -83,7 +85,8 @@ typedef struct {
 typedef struct {
     uint64_t value;      /* a done read's value */
     uint32_t number;     /* 0 done, or why the call is refused */
-    uint32_t delivered;  /* 1: a delivery step gave the pin, vector, destination and logical below */
+    uint32_t delivered;  /* 1: a delivery step gave the pin, vector, destination and logical below; its trigger mode:
+                            nataqvoju_is_level */
     uint32_t fired[3];   /* a done advance: how often each timer fired */
     uint8_t pin;
     uint8_t vector;
@@ -133,11 +136,12 @@ enum { /* of the timers' window; timer n's configuration is at 0x100 + 0x20n, it
 
 /* ---- the calls ---- */
 
-/* The reset state, whatever was there: also the way to make a board out of fresh memory. Always done. */
+/* The reset state, whatever was there: also the way to make a board out of fresh memory. Always done. Outside wires are low
+ * after it: a monitor whose lines stay high through a reset wires them again. */
 NataqvojuNumbers nataqvoju_reset(NataqvojuBoard *board);
 
 /* A register read: value. The board stays as it is. Refused with 5, 1, 2. */
-NataqvojuNumbers nataqvoju_read(NataqvojuBoard *board, uint64_t window, uint64_t width, uint64_t offset);
+NataqvojuNumbers nataqvoju_read(const NataqvojuBoard *board, uint64_t window, uint64_t width, uint64_t offset);
 
 /* A register write. Refused with 5, 1, 2, 4. */
 NataqvojuNumbers nataqvoju_write(NataqvojuBoard *board, uint64_t window, uint64_t width, uint64_t offset, uint64_t value);
@@ -154,12 +158,38 @@ NataqvojuNumbers nataqvoju_advance(NataqvojuBoard *board, uint32_t ticks);
 /* A delivery step: the lowest eligible pin, if there is one. Refused with 5. */
 NataqvojuNumbers nataqvoju_deliver(NataqvojuBoard *board);
 
+/* ---- what a monitor reads off a well-formed board ---- */
+
+/* The trigger mode of a pin, which the message of its delivery has to name: 1 level, 0 edge. It is bit 15 of the pin's low
+ * word, which a delivery step leaves as it is. A pin above 23 gives 0. */
+static inline int nataqvoju_is_level(const NataqvojuBoard *board, unsigned pin) {
+    return pin < 24 && (board->controller.entries.low[pin] >> 15 & 1) != 0;
+}
+
+/* In how many ticks a timer fires next: an advance by fewer fires none, by so many exactly the timers that are due, each once.
+ * It may be more than UINT32_MAX, the most that one advance takes. 0 if none fires, since the block is disabled, or only in
+ * 2^64 ticks. For each timer that is (comparator - counter) modulo 2^64, or 2^32 in 32-bit mode, where 0 stands for a whole
+ * turn: what is compared below is one less, which has no such case. */
+static inline uint64_t nataqvoju_next_firing(const NataqvojuBoard *board) {
+    uint64_t least = UINT64_MAX;
+    int m;
+    for (m = 0; m < 3 && board->timers.enabled; m++) {
+        const NataqvojuTimer *timer = &board->timers.timer[m];
+        uint64_t before = timer->comparator - board->timers.counter - 1;
+        if (timer->narrow) before &= UINT32_MAX;
+        if (before < least) least = before;
+    }
+    return least + 1;
+}
+
 /* ---- the layout, checked where this header is compiled ---- */
 
 #if defined(__cplusplus)
 #define NATAQVOJU_CHECK(fact) static_assert(fact, #fact)
+#define NATAQVOJU_ALIGNED(type, to) NATAQVOJU_CHECK(alignof(type) == (to))
 #else
 #define NATAQVOJU_CHECK(fact) _Static_assert(fact, #fact)
+#define NATAQVOJU_ALIGNED(type, to) NATAQVOJU_CHECK(_Alignof(type) == (to))
 #endif
 #define NATAQVOJU_AT(type, field, place) NATAQVOJU_CHECK(offsetof(type, field) == (place))
 
@@ -173,27 +203,32 @@ NATAQVOJU_AT(NataqvojuTimer, set_comparator, 21);
 NATAQVOJU_AT(NataqvojuTimer, narrow, 22);
 NATAQVOJU_AT(NataqvojuTimer, status, 23);
 NATAQVOJU_CHECK(sizeof(NataqvojuTimer) == 24);
+NATAQVOJU_ALIGNED(NataqvojuTimer, 8);
 
 NATAQVOJU_AT(NataqvojuTimers, counter, 0);
 NATAQVOJU_AT(NataqvojuTimers, enabled, 8);
 NATAQVOJU_AT(NataqvojuTimers, timer, 16);
 NATAQVOJU_CHECK(sizeof(NataqvojuTimers) == 88);
+NATAQVOJU_ALIGNED(NataqvojuTimers, 8);
 
 NATAQVOJU_AT(NataqvojuEntries, low, 0);
 NATAQVOJU_AT(NataqvojuEntries, destination, 96);
 NATAQVOJU_AT(NataqvojuEntries, level, 120);
 NATAQVOJU_AT(NataqvojuEntries, held, 144);
 NATAQVOJU_CHECK(sizeof(NataqvojuEntries) == 168);
+NATAQVOJU_ALIGNED(NataqvojuEntries, 4);
 
 NATAQVOJU_AT(NataqvojuController, id, 0);
 NATAQVOJU_AT(NataqvojuController, index, 4);
 NATAQVOJU_AT(NataqvojuController, entries, 8);
 NATAQVOJU_CHECK(sizeof(NataqvojuController) == 176);
+NATAQVOJU_ALIGNED(NataqvojuController, 4);
 
 NATAQVOJU_AT(NataqvojuBoard, timers, 0);
 NATAQVOJU_AT(NataqvojuBoard, controller, 88);
 NATAQVOJU_AT(NataqvojuBoard, outside, 264);
 NATAQVOJU_CHECK(sizeof(NataqvojuBoard) == 288);
+NATAQVOJU_ALIGNED(NataqvojuBoard, 8);
 
 NATAQVOJU_AT(NataqvojuNumbers, value, 0);
 NATAQVOJU_AT(NataqvojuNumbers, number, 8);
@@ -204,8 +239,10 @@ NATAQVOJU_AT(NataqvojuNumbers, vector, 29);
 NATAQVOJU_AT(NataqvojuNumbers, destination, 30);
 NATAQVOJU_AT(NataqvojuNumbers, logical, 31);
 NATAQVOJU_CHECK(sizeof(NataqvojuNumbers) == 32);
+NATAQVOJU_ALIGNED(NataqvojuNumbers, 8);
 
 #undef NATAQVOJU_AT
+#undef NATAQVOJU_ALIGNED
 #undef NATAQVOJU_CHECK
 
 #ifdef __cplusplus

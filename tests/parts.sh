@@ -1,16 +1,9 @@
 # What several tests need. No test itself: it is sourced, from the repository's folder, and not executable.
 passed=0 failed=0
 
-# program: target/bin/replay, built if it isn't there
-program() { [ -x target/bin/replay ] || rt check replay; }
-
-# archive: target/staticlib/libmonitor.a, built unless it is newer than all that crates/ has
-archive() {
-  local archive=target/staticlib/libmonitor.a
-  [ -f "$archive" ] && [ -z "$(find crates crates.txt -newer "$archive" -print -quit)" ] && return
-  rm -f "$archive"
-  rt staticlib monitor && [ -f "$archive" ]
-}
+. tests/build.sh
+program() { built_program replay; }
+archive() { built_library nataqvoju; }
 
 # tallied SAID STATUS: the counts of a command that printed SAID and ended with STATUS, as 'N M'. They are those of its
 # last line, 'N passed, M failed'. No such line, nothing counted, or a status that does not fit: a failure.
@@ -29,6 +22,19 @@ cargo_tallied() {
   awk -v status="$2" '
     /^test result: / { n += $4; m += $6 + $8; lines++ }
     END { if (m == 0 && (n == 0 || status != 0)) m = 1; print n + 0, m + 0 }' "$1"
+}
+
+# check LABEL COMMAND ..: one check. What the command says goes to the file $said, and is shown if it fails.
+check() {
+  local label=$1
+  shift
+  if "$@" >"$said" 2>&1; then
+    passed=$((passed + 1))
+  else
+    failed=$((failed + 1))
+    echo "FAILED: $label"
+    tail -n 40 "$said"
+  fi
 }
 
 # step LABEL TALLY COMMAND ..: runs a command and adds what TALLY counts. Of its output the last $show lines are shown,

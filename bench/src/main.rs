@@ -34,7 +34,7 @@ bench once SIDE CALL
 bench replay FILE
     Replays a log with the plain calls; the table times the library's program beside it.
 
-NATAQVOJU_LIB_DIR, when this is built, names the folder that has libmonitor.a;
+NATAQVOJU_LIB_DIR, when this is built, names the folder that has libnataqvoju.a;
 NATAQVOJU_REPLAY names the program that replays a log, and NATAQVOJU_PEER the second program
 (without it, the one that is built beside this package).
 Exit status: 0 all limits hold, 1 some don't, 2 something is missing.

@@ -1,10 +1,11 @@
 /* pause_key.c: a monitor in C. It keeps the board in its own memory, and tells a story of it line by line.
- * What it must print stands in pause_key.out, worked out by hand. docs/MONITOR.md says how it is built. */
+ * What it must print stands in pause_key.out, worked out by hand. It is compiled in any folder, by
+ *     gcc -O2 -I FOLDER_OF_NATAQVOJU_H pause_key.c FOLDER_OF_THE_LIBRARY/libnataqvoju.a -o pause_key */
 #include <inttypes.h>
 #include <stdio.h>
 #include <string.h>
 
-#include "../nataqvoju.h"
+#include "nataqvoju.h"
 
 enum { DRIVE = 9, PAUSE = 14 };          /* the pins of the servo drive and of the pause key */
 enum { DRIVE_VECTOR = 0x29, PAUSE_VECTOR = 0x2E };

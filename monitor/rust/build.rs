@@ -1,20 +1,20 @@
-// Links libmonitor.a, which `rt staticlib monitor` writes, from the folder that NATAQVOJU_LIB_DIR names.
+// Links libnataqvoju.a, which `./nataqvoju library` makes, from the folder that NATAQVOJU_LIB_DIR names.
 use std::env;
 use std::path::Path;
 
 fn main() {
     println!("cargo:rerun-if-env-changed=NATAQVOJU_LIB_DIR");
     let dir = env::var("NATAQVOJU_LIB_DIR").unwrap_or_else(|_| {
-        panic!("set NATAQVOJU_LIB_DIR to the folder of libmonitor.a (target/staticlib after `rt staticlib monitor`)")
+        panic!("set NATAQVOJU_LIB_DIR to the folder of libnataqvoju.a (target/staticlib after `./nataqvoju library`)")
     });
-    let archive = Path::new(&dir).join("libmonitor.a");
+    let archive = Path::new(&dir).join("libnataqvoju.a");
     if !archive.is_file() {
         panic!(
-            "{} is not there: run `rt staticlib monitor`, and give NATAQVOJU_LIB_DIR as an absolute path",
+            "{} is not there: run `./nataqvoju library`, and give NATAQVOJU_LIB_DIR as an absolute path",
             archive.display()
         );
     }
     println!("cargo:rerun-if-changed={}", archive.display());
     println!("cargo:rustc-link-search=native={dir}");
-    println!("cargo:rustc-link-lib=static=monitor");
+    println!("cargo:rustc-link-lib=static=nataqvoju");
 }

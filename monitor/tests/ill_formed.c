@@ -5,7 +5,7 @@
 #include <stdio.h>
 #include <string.h>
 
-#include "../nataqvoju.h"
+#include "nataqvoju.h"
 
 static unsigned long passed, failed;
 static int sound = 1;

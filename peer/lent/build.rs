@@ -1,19 +1,19 @@
-//! Links the static library `monitor`, which NATAQVOJU_LIB_DIR says where to find.
+//! Links the static library `nataqvoju`, which NATAQVOJU_LIB_DIR says where to find.
 
 use std::path::Path;
 
 fn main() {
     println!("cargo:rerun-if-env-changed=NATAQVOJU_LIB_DIR");
     let Ok(folder) = std::env::var("NATAQVOJU_LIB_DIR") else {
-        fail("NATAQVOJU_LIB_DIR isn't set; it names the folder that has libmonitor.a");
+        fail("NATAQVOJU_LIB_DIR isn't set; it names the folder that has libnataqvoju.a");
     };
-    let library = Path::new(&folder).join("libmonitor.a");
+    let library = Path::new(&folder).join("libnataqvoju.a");
     if !library.is_file() {
         fail(&format!("{} isn't there; build the library first", library.display()));
     }
     println!("cargo:rerun-if-changed={}", library.display());
     println!("cargo:rustc-link-search=native={folder}");
-    println!("cargo:rustc-link-lib=static=monitor");
+    println!("cargo:rustc-link-lib=static=nataqvoju");
 }
 
 fn fail(message: &str) -> ! {

@@ -38,8 +38,10 @@ pub const CONTROLLER: u64 = 0;
 /// The timers' window.
 pub const TIMER_BLOCK: u64 = 1;
 
-/// The calls that a log can make. The model answers them; so does a wrong model.
+/// The calls; a log can make all but a reset. The model answers them; so does a wrong model.
 pub trait Calls {
+    /// Resets the board, whatever state it is in; the right answer is always that it is done.
+    fn reset(&mut self) -> Result<(), Refusal>;
     /// Reads a register.
     fn read(&mut self, window: u64, width: u64, offset: u64) -> Result<u64, Refusal>;
     /// Writes a register.
@@ -69,11 +71,6 @@ impl Board {
     /// The board after a reset.
     pub const RESET: Board =
         Board { timers: Timers::RESET, controller: Controller::RESET, outside: [false; PINS] };
-
-    /// Resets the board, whatever state it is in.
-    pub fn reset(&mut self) {
-        *self = Board::RESET;
-    }
 
     /// The wire rule, outside a pulse.
     pub fn wire_rule(&self, pin: usize) -> bool {
@@ -202,6 +199,11 @@ fn check_access(window: u64, width: u64, offset: u64) -> Result<(), Refusal> {
 }
 
 impl Calls for Board {
+    fn reset(&mut self) -> Result<(), Refusal> {
+        *self = Board::RESET;
+        Ok(())
+    }
+
     fn read(&mut self, window: u64, width: u64, offset: u64) -> Result<u64, Refusal> {
         self.check_state()?;
         check_access(window, width, offset)?;

@@ -8,7 +8,8 @@
 //! - [`log`]: event logs, read and replayed.
 //! - [`generate`], [`events`], [`shrink`], [`fuzz`]: random logs, what happens in them, and the
 //!   comparison with another program.
-//! - [`abi`]: the lent entry's memory layout and its answers.
+//! - [`abi`], [`sequence`]: the lent entry's memory layout and its answers; random sequences of
+//!   its calls, resets among them.
 //! - [`wrong`], [`mutants`]: wrong models that the comparison has to find.
 
 pub mod abi;
@@ -21,6 +22,7 @@ pub mod log;
 pub mod mutants;
 pub mod pin;
 pub mod random;
+pub mod sequence;
 pub mod shrink;
 pub mod timer;
 pub mod timers;

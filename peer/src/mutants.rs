@@ -1,13 +1,18 @@
 //! Shows that the comparison catches mistakes: each wrong model against the right one, on the
-//! same random logs. A mistake that isn't found is a hole in the generator.
+//! same random logs, or on the same random sequences of calls if the mistake is one in a reset.
+//! A mistake that isn't found is a hole in the generator.
 
+use crate::abi::Reply;
 use crate::generate::{self, Profile};
 use crate::log::{records_of, replay_from_reset};
+use crate::sequence::{Maker, Sequence};
 use crate::shrink::shrink;
 use crate::wrong::{self, Mistake};
 
 /// Each mistake has to be found within so many logs.
 pub const LOGS: u64 = 500;
+/// Each mistake in a reset has to be found within so many rounds of sequences.
+const ROUNDS: usize = 200;
 /// The effort to shrink a difference.
 const SHRINK_EFFORT: usize = 8_000_000;
 
@@ -15,7 +20,16 @@ const SHRINK_EFFORT: usize = 8_000_000;
 /// all were found.
 pub fn run(seed: u64, logs: u64) -> bool {
     let cases: Vec<Case> = (0..logs).map(|number| Case::new(seed, number)).collect();
-    let found = Mistake::ALL.iter().filter(|&&mistake| look_for(mistake, &cases)).count();
+    let mut maker = Maker::new(seed);
+    let calls: Vec<Calls> = (0..ROUNDS).flat_map(|_| maker.round()).map(Calls::new).collect();
+    let is_found = |mistake: Mistake| {
+        if mistake.is_of_reset() {
+            look_in_calls(mistake, &calls)
+        } else {
+            look_in_logs(mistake, &cases)
+        }
+    };
+    let found = Mistake::ALL.iter().filter(|&&mistake| is_found(mistake)).count();
     let missed = Mistake::ALL.len() - found;
     println!("{found} passed, {missed} failed");
     missed == 0
@@ -35,7 +49,19 @@ impl Case {
     }
 }
 
-fn look_for(mistake: Mistake, cases: &[Case]) -> bool {
+/// A sequence with its right replies.
+struct Calls {
+    sequence: Sequence,
+    right: Vec<Reply>,
+}
+
+impl Calls {
+    fn new(sequence: Sequence) -> Calls {
+        Calls { right: sequence.steps().map(|step| step.reply).collect(), sequence }
+    }
+}
+
+fn look_in_logs(mistake: Mistake, cases: &[Case]) -> bool {
     let text = mistake.text();
     let shows = |case: &Case| wrong::replay(&case.log, mistake) != case.right;
     let Some(place) = cases.iter().position(shows) else {
@@ -47,4 +73,16 @@ fn look_for(mistake: Mistake, cases: &[Case]) -> bool {
     let records = records_of(&short).0.len();
     println!("{text:<64} found after {:>3} logs, {records:>2} records", place + 1);
     true
+}
+
+/// Looks at the replies alone: what `lent-check` compares, the board's bytes too, differs sooner.
+fn look_in_calls(mistake: Mistake, calls: &[Calls]) -> bool {
+    let text = mistake.text();
+    let shows = |calls: &Calls| wrong::replies(&calls.sequence, mistake) != calls.right;
+    let found = calls.iter().position(shows);
+    match found {
+        Some(place) => println!("{text:<64} found after {:>3} sequences", place + 1),
+        None => println!("{text:<64} NOT FOUND in {} sequences", calls.len()),
+    }
+    found.is_some()
 }

@@ -78,6 +78,11 @@ impl Pin {
         !self.has(DELIVERY_MODE)
     }
 
+    /// Unmasked edge pin: an assertion makes an edge.
+    pub fn holds_edges(&self) -> bool {
+        !self.is_level() && !self.is_masked()
+    }
+
     /// The wire differs from the active-low bit.
     pub fn is_asserted(&self) -> bool {
         self.wire != self.is_active_low()
@@ -122,7 +127,7 @@ impl Pin {
     pub fn step_wire(&mut self, level: bool) {
         let before = self.is_asserted();
         self.wire = level;
-        if !before && self.is_asserted() && !self.is_level() && !self.is_masked() {
+        if !before && self.is_asserted() && self.holds_edges() {
             self.held = true;
         }
     }

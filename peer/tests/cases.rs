@@ -418,7 +418,7 @@ fn every_call_but_a_reset_refuses_an_ill_formed_state_first() {
         assert_eq!(after.advance(7), Err(Refusal::State));
         assert_eq!(after.deliver(), Err(Refusal::State));
         assert_eq!(after, board);
-        after.reset();
+        assert_eq!(after.reset(), Ok(()));
         assert_eq!(after, Board::RESET);
     }
 }

@@ -1,13 +1,13 @@
 -- The first test that holds gives the number, and a number is given exactly so.
-use mathlib.Core.Path.{_≡_, refl, sym, ap, subst, _∙_}
-use mathlib.Core.Bool.{Bool, true, false, cond}
+use mathlib.Core.Path.{_≡_, refl, sym, subst, _∙_}
+use mathlib.Core.Bool.{Bool, true, false, not, cond}
 use mathlib.Core.List.{List, [], _∷_}
 use Prim.Native.Nat.{ℕ}
 use Rattle.answers.specs.declared.Refusal.{Refusal}
 use Rattle.answers.specs.declared.Answer.{Answer}
 use Rattle.answers.specs.declared.Answer.the-variants as answer
 use Rattle.answers.specs.Numbers.{numberOf, numbersOf}
-use Rattle.answers.specs.Order.{Test, firstNumber, Given, done, here, later}
+use Rattle.answers.specs.Order.{Test, test, firstNumber, Given, done, here, later}
 use Rattle.answers.proofs.Refused.{answerNumber}
 
 pub given-first : (ts : List Test) → Given ts (firstNumber ts)
@@ -51,3 +51,12 @@ module _ {S : Type 0} (s : S) where
   pub later-decided : (t : Test) (ts : List Test) (n : S) (a : Answer) → t .holds ≡ false → Decided S ts s n a → Decided S (t ∷ ts) s n a
   unfolding firstNumber
   later-decided t ts n a h d = record { number = rw h (d .number); same = d .same }
+
+-- a turn T carries a state and an answer: a test, the turn where it refuses, and what the tests after it decide
+module _ {S T : Type 0} (state : T → S) (said : T → Answer) (s : S) where
+  abbrev DecidedTurn : List Test → T → Type 0
+  DecidedTurn ts t = Decided S ts s (state t) (said t)
+
+  pub then-decided : (n : ℕ) (ts : List Test) (t u : T) (f : Bool) → DecidedTurn (test n true ∷ ts) u → DecidedTurn ts t → DecidedTurn (test n (not f) ∷ ts) (cond f t u)
+  then-decided n ts t u true r d = later-decided s (test n false) ts (state t) (said t) refl d
+  then-decided n ts t u false r d = r

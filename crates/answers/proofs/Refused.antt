@@ -1,14 +1,17 @@
 -- A refused call gives no value: read value 0, counts 0, no delivery. Any two results that one equation allows are equal.
-use mathlib.Core.Path.{_≡_, refl, sym, ap, _∙_}
+use mathlib.Core.Path.{_≡_, refl, sym, _∙_}
 use Prim.Native.Nat.{ℕ}
-use Rattle.answers.specs.declared.Refusal.{Refusal}
-use Rattle.answers.specs.declared.Refusal.the-variants as refusal
+use lib.ListN.{getD}
 use Rattle.answers.specs.declared.Answer.{Answer}
 use Rattle.answers.specs.declared.Answer.the-variants as answer
-use Rattle.answers.specs.Numbers.{numberOf, bare, numbersOf}
+use Rattle.answers.specs.Numbers.{bare, numbersOf}
 
 abbrev pub answerNumber : Answer → ℕ
 answerNumber a = numbersOf a .number
+
+-- timer m's count
+abbrev pub answerFired : ℕ → Answer → ℕ
+answerFired m a = getD (numbersOf a .fired) m 0
 
 pub refused-bare : (a : Answer) → (answerNumber a ≡ 0 → ⊥) → numbersOf a ≡ bare (answerNumber a)
 unfolding numbersOf

@@ -1,51 +1,44 @@
 -- On a well-formed board, the calls as the code makes them are the calls.
 use Prim.Native.Nat.{ℕ, zero, suc, _<_, _≤_}
-use mathlib.Core.Path.{_≡_, refl, sym, ap, ap₂, _∙_}
-use mathlib.Core.Bool.{Bool, true, false, cond, _&&_, _||_}
+use mathlib.Core.Path.{_≡_, refl, sym, ap, _∙_}
+use mathlib.Core.Bool.{Bool, true, false, cond}
 use mathlib.Core.List.{List}
 use native.Mathlib.Omega.{arith}
 use native.Mathlib.Decide.{ℕ-discrete}
 use lib.Dec.{eqb, leb, ltb, lit≤}
-use lib.ListN.{getD, length, set, length-set}
-use lib.Seq.{ext-getD, getD-set-same, getD-set-other, set-getD}
-use mir.Val.{boolByte}
+use lib.ListN.{getD, length, set}
 use borrow.Author.Tests.{eq-eqb, ne-eqb, ltb-true}
-use Rattle.pins.proofs.Bools.{clash, not-true-false}
+use Rattle.pins.proofs.Bools.{clash}
 use Rattle.answers.specs.declared.Answer.the-variants as answer
 use Rattle.answers.specs.declared.Refusal.the-variants as refusal
 use Rattle.entries.specs.declared.Entries.{Entries}
-use Rattle.entries.specs.Pin.{heldAfter}
-use Rattle.entries.specs.Table.{lowAt, levelAt, heldAt, withHeld, withLevel, wired, wiredAt, pulsed}
-use Rattle.entries.proofs.Pulse.{wired-one, wired-same}
-use Rattle.entries.proofs.One.{one-is, pulsed-one}
+use Rattle.entries.specs.Strike.{struckBy}
+use Rattle.entries.proofs.Strikes.{struck-three, strike-none}
 use Rattle.controller.specs.declared.Controller.{Controller}
 use Rattle.controller.specs.State.{withEntries}
-use Rattle.controller.specs.Steps.{rewired, rewiredAt}
+use Rattle.controller.specs.Inner.{rewiredAt, struckOf}
 use Rattle.timers.specs.declared.Timers.{Timers}
+use Rattle.timers.specs.declared.Ran.{Ran}
 use Rattle.timers.specs.State.{three, isEnabled}
-use Rattle.timers.specs.Tick.{matchesOf, firedOf, drivesOf, pulsesOf, raisesOf, routeOf, ranOf, ticks as timersTicks, firesIn as timersFiresIn, first}
+use Rattle.timers.specs.Tick.{matchesOf, pulsesOf, routeOf, ticks as timersTicks, firesIn as timersFiresIn}
+use Rattle.timers.specs.Inner.{raisesOf, ranOf, first}
 use Rattle.timer.specs.State.{flag}
 use Rattle.timers.proofs.Each.{turns-enabled}
-use Rattle.timers.proofs.Formed.{route-pin}
 use Rattle.timers.proofs.Three.{at-three}
-use Rattle.timers.proofs.Turns.{ticks-pulses, ticks-raises, ticks-route, turns-pulses, turns-raises, turns-route, ran-firsts, fires-on, fires-off}
-use Rattle.timers.proofs.Wires.{fired-drives}
-use Rattle.timers.proofs.First.{first-here, fired-before}
+use Rattle.timers.proofs.Turns.{ticks-pulses, ticks-raises, ticks-route, turns-pulses, turns-raises, turns-route, ran-timers, ran-fired, ran-firsts, fires-on, fires-off}
+use Rattle.timers.proofs.First.{first-le, first-here, fired-before}
 use Rattle.board.specs.declared.Board.{Board}
 use Rattle.board.specs.State.{board, turn, refused}
-use Rattle.board.specs.Formed.{wellFormed}
-use Rattle.board.specs.Wires.{highAt, wiresOf, joined}
-use Rattle.board.specs.Tick.{fire, turned, upTo, tick, ticks}
+use Rattle.board.specs.Wires.{joined}
+use Rattle.board.specs.Tick.{turned, upTo, tick, ticks, firings}
 use Rattle.board.specs.Step.{wiringOf, advancingOf}
-use Rattle.board.specs.At.{levelOf, wiringAt, struckLevel, struckHeld, strike, strikes, struck, advancingAt}
-use Rattle.board.proofs.Rule.{wires-long, wires-at, wires-same}
+use Rattle.board.specs.At.{levelOf, wiringAt, strikeAt, strikeOf, strikesOf, advancingAt}
 use Rattle.board.proofs.Formed.{Formed}
 use Rattle.board.proofs.Wire.{joined-one}
-use Rattle.board.proofs.Fire.{by-cases}
 use Rattle.board.proofs.Turns.{Still, turned-quiet, turns-formed, turns-timers, turns-match, turns-keep}
-use Rattle.board.proofs.Ticks.{ticks-formed, ticks-timers, still-after}
-use Rattle.board.proofs.Jumps.{answered}
-use Rattle.board.proofs.Struck.{strikes-none}
+use Rattle.board.proofs.Ticks.{ticks-formed, ticks-timers, ticks-outside, ticks-firings, still-after}
+use Rattle.board.proofs.Order.{walk, in-order}
+use Rattle.board.proofs.Strikes.{fire-strikes, strike-same}
 
 -- ---- an outside wire
 
@@ -60,80 +53,17 @@ wiring-at b z k pin level = go (ltb pin 24) refl
     go true e = ap (λ (x : Board). cond (leb level 1) (turn x answer.Done) (refused b refusal.Level)) (joined-one b z pin level k (ltb-true pin 24 e))
     go false e = refl
 
--- ---- a firing, at its one pin
-
-module _ (b : Board) (z : Formed b) (m : ℕ) (l : m < 3) (on : isEnabled (b .timers) ≡ true) where
-  abbrev s : Timers
-  s = b .timers
-
-  abbrev o : List ℕ
-  o = b .outside
-
-  abbrev c : Controller
-  c = b .controller
-
-  abbrev e : Entries
-  e = c .entries
-
-  abbrev p : ℕ
-  p = routeOf s m
-
-  pin : p < 24
-  pin = route-pin s (z .timed) m l
-
-  -- the wires after it, where it raises its own for good, and where it doesn't
-  up : raisesOf s m ≡ true → wiresOf o (firedOf s m) ≡ set (e .level) p 1
-  unfolding highAt
-  up r =
-      ext-getD 0 (wiresOf o (firedOf s m)) (set (e .level) p 1) (wires-long o (firedOf s m) ∙ sym (length-set (e .level) p 1 ∙ z .sized .level))
-      (λ i j. let k : i < 24 = rw (wires-long o (firedOf s m)) at j in wires-at o (firedOf s m) i k ∙ ap (λ (x : Bool). boolByte (eqb (getD o i 0) 1 || x)) (fired-drives s m i l on) ∙ go i k (ℕ-discrete i p))
-    where
-      or-true : (x y : Bool) → boolByte (x || (y || true)) ≡ 1
-      or-true true y = refl
-      or-true false true = refl
-      or-true false false = refl
-
-      or-false : (y : Bool) → (y || false) ≡ y
-      or-false true = refl
-      or-false false = refl
-
-      go : (i : ℕ) → i < 24 → Dec (i ≡ p) → boolByte (eqb (getD o i 0) 1 || (drivesOf s i || (raisesOf s m && eqb p i))) ≡ getD (set (e .level) p 1) i 0
-      go i k (yes q) = rw (r, eq-eqb p i (sym q)) (or-true (eqb (getD o i 0) 1) (drivesOf s i) ∙ sym (ap (λ (x : ℕ). getD (set (e .level) p 1) x 0) q ∙ getD-set-same (e .level) p 1 0 (rw (z .sized .level) pin)))
-      go i k (no d) =
-          rw (r, ne-eqb p i (λ h. d (sym h)), or-false (drivesOf s i))
-          (sym (wires-at o s i k) ∙ ap (λ (x : List ℕ). getD x i 0) (sym (z .wired)) ∙ sym (getD-set-other (e .level) p i 1 0 d))
-
-  flat : raisesOf s m ≡ false → wiresOf o (firedOf s m) ≡ e .level
-  flat r = wires-same o s (firedOf s m) (λ q. fired-drives s m q l on ∙ rw r (go (drivesOf s q))) ∙ sym (z .wired)
-    where
-      go : (y : Bool) → (y || false) ≡ y
-      go true = refl
-      go false = refl
-
-  -- the entries with pin p's level and held edge as they are
-  same : withLevel (withHeld e (set (e .held) p (heldAt e p))) (set (e .level) p (levelAt e p)) ≡ e
-  same = ap₂ (λ (h v : List ℕ). withLevel (withHeld e h) v) (set-getD (e .held) p 0) (set-getD (e .level) p 0)
-
-  fire-strikes : fire m b .controller ≡ withEntries c (strike s m e)
-  unfolding strike struckHeld struckLevel
-  fire-strikes =
-      by-cases b z m l (λ x. x ≡ withEntries c (strike s m e))
-      (λ h.
-      ap (withEntries c)
-      (pulsed-one e (z .sized) p pin
-      ∙ rw h (ap (withLevel (withHeld e (set (e .held) p (heldAfter (lowAt e p) 1 (levelAt e p) (heldAfter (lowAt e p) (levelAt e p) 1 (heldAt e p)))))) (sym (set-getD (e .level) p 0)))))
-      (λ h. go (raisesOf s m) refl h)
-    where
-      go : (x : Bool) → raisesOf s m ≡ x → pulsesOf s m ≡ false → rewired c (wiresOf o (firedOf s m)) ≡ withEntries c (strike s m e)
-      go true r h = ap (λ (v : List ℕ). rewired c v) (up r) ∙ ap (withEntries c) (wired-one e (z .sized) p pin 1 ∙ one-is e p 1 ∙ rw (h, r))
-      go false r h = ap (λ (v : List ℕ). rewired c v) (flat r) ∙ ap (withEntries c) (wired-same e (z .sized) ∙ rw (h, r) (sym same))
-
--- it is told by the pulses, the raising and the route, which stay
-strike-same : (s s′ : Timers) (m : ℕ) (e : Entries) → pulsesOf s′ m ≡ pulsesOf s m → raisesOf s′ m ≡ raisesOf s m → routeOf s′ m ≡ routeOf s m → strike s′ m e ≡ strike s m e
-unfolding strike
-strike-same s s′ m e p r q = rw (p, r, q)
-
 -- ---- the n-fold tick
+
+-- the strikes of those timers below m that fire first at tick t, 0 first, where f has the ticks of the first firings
+unfoldable strikes : Timers → List ℕ → ℕ → ℕ → Entries → Entries
+strikes s f t zero e = e
+strikes s f t (suc m) e = cond (eqb (getD f m 0) t) (struckBy (strikes s f t m e) (strikeAt s m)) (strikes s f t m e)
+
+strikes-none : (s : Timers) (f : List ℕ) (t : ℕ) → ((m : ℕ) → m < 3 → getD f m 0 ≡ t → ⊥) → (m : ℕ) → m ≤ 3 → (e : Entries) → strikes s f t m e ≡ e
+unfolding strikes
+strikes-none s f t q zero l e = refl
+strikes-none s f t q (suc m) l e = rw (ne-eqb (getD f m 0) t (q m l)) (strikes-none s f t q m (omega arith) e)
 
 module _ (b : Board) (z : Formed b) (n : ℕ) (f : List ℕ) (is : f ≡ three (λ m. first m n (b .timers))) where
   f-at : (m : ℕ) → m < 3 → getD f m 0 ≡ first m n (b .timers)
@@ -178,9 +108,9 @@ module _ (b : Board) (z : Formed b) (n : ℕ) (f : List ℕ) (is : f ≡ three (
           on-x : isEnabled (x .timers) ≡ true
           on-x = ap isEnabled (turns-timers y formed-y m) ∙ ap flag (turns-enabled (y .timers) m) ∙ on
 
-          struck-x : strike (x .timers) m (x .controller .entries) ≡ strike (b .timers) m (x .controller .entries)
-          struck-x =
-              strike-same (b .timers) (x .timers) m (x .controller .entries)
+          same-x : strikeAt (x .timers) m ≡ strikeAt (b .timers) m
+          same-x =
+              strike-same (b .timers) (x .timers) m
               (ap (λ (u : Timers). pulsesOf u m) (turns-timers y formed-y m) ∙ turns-pulses (y .timers) m m l ∙ ap (λ (u : Timers). pulsesOf u m) timers-y ∙ ticks-pulses m t (b .timers) l)
               (ap (λ (u : Timers). raisesOf u m) (turns-timers y formed-y m) ∙ turns-raises (y .timers) m m l ∙ ap (λ (u : Timers). raisesOf u m) timers-y ∙ ticks-raises m t (b .timers) l)
               (ap (λ (u : Timers). routeOf u m) (turns-timers y formed-y m) ∙ turns-route (y .timers) m m l ∙ ap (λ (u : Timers). routeOf u m) timers-y ∙ ticks-route m t (b .timers) l)
@@ -189,8 +119,8 @@ module _ (b : Board) (z : Formed b) (n : ℕ) (f : List ℕ) (is : f ≡ three (
           go (yes q) =
               rw (eq-eqb (getD f m 0) (suc t) q, matches ∙ fires m l q)
               (fire-strikes x zx m l on-x
-              ∙ ap (withEntries (x .controller)) struck-x
-              ∙ ap (λ (u : Controller). withEntries u (strike (b .timers) m (u .entries))) before)
+              ∙ ap (λ (k : ℕ). withEntries (x .controller) (struckBy (x .controller .entries) k)) same-x
+              ∙ ap (λ (u : Controller). withEntries u (struckBy (u .entries) (strikeAt (b .timers) m))) before)
           go (no d) =
               rw (ne-eqb (getD f m 0) (suc t) d)
               (turned-quiet x zx m l (λ g. turns-keep y formed-y m l m (omega arith) (stills m l (sym matches ∙ g) d)) ∙ before)
@@ -210,15 +140,47 @@ module _ (b : Board) (z : Formed b) (n : ℕ) (f : List ℕ) (is : f ≡ three (
             ap (withEntries (y .controller))
             (sym (strikes-none (b .timers) f (suc t) (λ m l q. clash (sym (fires m l q) ∙ fires-off (y .timers) m off)) 3 (lit≤ tt) (y .controller .entries)))
 
-  struck-ticks : (t : ℕ) → t ≤ n → withEntries (b .controller) (struck (b .timers) f t (b .controller .entries)) ≡ ticks t b .controller
-  unfolding struck ticks
-  struck-ticks zero l = refl
-  struck-ticks (suc t) l =
+  -- as the ticks come
+  walked : (t : ℕ) → t ≤ n → withEntries (b .controller) (walk (λ t. strikes (b .timers) f t 3) t (b .controller .entries)) ≡ ticks t b .controller
+  unfolding walk ticks
+  walked zero l = refl
+  walked (suc t) l =
       sym
       (ticked t l
-      ∙ ap (λ (u : Controller). withEntries u (strikes (b .timers) f (suc t) 3 (u .entries))) (sym (struck-ticks t (omega arith))))
+      ∙ ap (λ (u : Controller). withEntries u (strikes (b .timers) f (suc t) 3 (u .entries))) (sym (walked t (omega arith))))
+
+  -- and in their order at once
+  struck-ticks : struckOf (b .controller) (strikesOf (b .timers) f) ≡ ticks n b .controller
+  unfolding strikesOf strikeOf strikes
+  struck-ticks =
+      ap (withEntries (b .controller))
+      (struck-three (b .controller .entries) (strikesOf (b .timers) f)
+      ∙ sym
+      (in-order (λ k x. struckBy x k) (λ x. strike-none x 0 (omega arith)) f (strikeAt (b .timers) 0) (strikeAt (b .timers) 1) (strikeAt (b .timers) 2) n (f-le 0 (omega arith)) (f-le 1 (omega arith)) (f-le 2 (omega arith))
+      (b .controller .entries)))
+      ∙ walked n (omega arith)
+    where
+      f-le : (m : ℕ) → m < 3 → getD f m 0 ≤ n
+      f-le m l = rw (f-at m l) (first-le m n (b .timers))
+
+-- ---- the whole answer
+
+answered :
+    (b : Board) (z : Formed b) (n : ℕ) (c : Controller) (x : Ran) → c ≡ ticks n b .controller → x ≡ ranOf (b .timers) n →
+    turn (board c (x .timers) (b .outside)) (answer.Fired (getD (x .fired) 0 0) (getD (x .fired) 1 0) (getD (x .fired) 2 0)) ≡ advancingOf b n
+unfolding advancingOf
+answered b z n c x ec ex = λ i. turn (whole i) (answer.Fired (count 0 (omega arith) i) (count 1 (omega arith) i) (count 2 (omega arith) i))
+  where
+    state : x .timers ≡ timersTicks n (b .timers)
+    state = ap (λ (y : Ran). y .timers) ex ∙ ran-timers (b .timers) n
+
+    whole : board c (x .timers) (b .outside) ≡ ticks n b
+    whole = λ i. board (ec i) ((state ∙ sym (ticks-timers b z n)) i) (sym (ticks-outside b z n) i)
+
+    count : (m : ℕ) → m < 3 → getD (x .fired) m 0 ≡ firings m n b
+    count m l = ap (λ (y : Ran). getD (y .fired) m 0) ex ∙ ran-fired (b .timers) n m l ∙ sym (ticks-firings b z m n)
 
 pub advancing-at : (b : Board) → Formed b → (n : ℕ) → advancingAt b n ≡ advancingOf b n
 unfolding advancingAt
 advancing-at b z n =
-    answered b z n _ (ranOf (b .timers) n) (struck-ticks b z n (ranOf (b .timers) n .first) (ran-firsts (b .timers) n) n (omega arith)) refl
+    answered b z n _ (ranOf (b .timers) n) (struck-ticks b z n (ranOf (b .timers) n .first) (ran-firsts (b .timers) n)) refl

@@ -1,7 +1,7 @@
 -- The demands, for a reader who looks here first: the paper's sentence stands above each theorem.
 -- Sized says that a board's lists are as long as the code's arrays; it holds of every value that the code can have.
-use Prim.Native.Nat.{ℕ, zero, suc, _+_, _<_, _^_}
-use mathlib.Core.Path.{_≡_, refl, sym, ap, ap₂, subst, _∙_}
+use Prim.Native.Nat.{ℕ, zero, suc, _+_, _<_}
+use mathlib.Core.Path.{_≡_, refl, sym, ap, ap₂, _∙_}
 use mathlib.Core.Bool.{Bool, true, false, not, cond, _||_}
 use mathlib.Core.List.{List, [], _∷_}
 use native.Mathlib.Omega.{arith}
@@ -12,25 +12,21 @@ use Rattle.answers.specs.declared.Answer.the-variants as answer
 use Rattle.answers.specs.declared.Refusal.{Refusal}
 use Rattle.answers.specs.declared.Refusal.the-variants as refusal
 use Rattle.answers.specs.Numbers.{numberOf, bare, numbersOf}
-use Rattle.answers.specs.Order.{Test, test, firstNumber, Given}
+use Rattle.answers.specs.Order.{Test, test, Given}
 use Rattle.answers.proofs.Order.{only-if, if, Decided, done-decided, refused-decided, later-decided}
 use Rattle.answers.proofs.Refused.{answerNumber, refused-bare, one-result}
 use Rattle.entries.specs.declared.Entries.{Entries}
 use Rattle.entries.specs.Table.{eligibleAt, given}
-use Rattle.entries.proofs.Pulse.{wired-same}
 use Rattle.entries.proofs.Delivery.{Lowest}
 use Rattle.controller.specs.declared.Controller.{Controller}
 use Rattle.controller.specs.declared.Turn.{Turn as ControllerTurn}
-use Rattle.controller.specs.State.{wellFormed as controllerFormed, withEntries}
 use Rattle.controller.specs.Window.{readingOf as controllerReading, writingOf as controllerWriting}
-use Rattle.controller.specs.Steps.{afterEnd, rewired, deliveringOf, deliverOf}
+use Rattle.controller.specs.Steps.{afterEnd, deliveringOf, deliverOf}
 use Rattle.controller.proofs.Demands.{reading-decided, writing-decided, delivering-decided, deliver-served, delivers-only-if, delivers-if, none-only-if, none-if}
 use Rattle.timer.specs.declared.Timer.{Timer}
 use Rattle.timers.specs.declared.Timers.{Timers}
 use Rattle.timers.specs.State.{at}
-use Rattle.timers.specs.Formed.{wellFormed as timersFormed}
-use Rattle.timers.specs.Registers.{aligned, inside}
-use Rattle.timers.specs.Tick.{ticks as timersTicks, firings as timersFirings}
+use Rattle.timers.specs.Tick.{ticks as timersTicks}
 use Rattle.timers.specs.declared.Turn.{Turn as TimersTurn}
 use Rattle.timers.specs.Call.{readingOf as timersReading, writingOf as timersWriting}
 use Rattle.timers.proofs.Decided.{reading-decided as timers-reading-decided, writing-decided as timers-writing-decided}
@@ -40,15 +36,16 @@ use Rattle.board.specs.declared.Board.{Board}
 use Rattle.board.specs.declared.Call.{Call}
 use Rattle.board.specs.declared.Call.the-variants as call
 use Rattle.board.specs.declared.Turn.{Turn}
-use Rattle.board.specs.State.{board, withController, turn, refused}
-use Rattle.board.specs.Wires.{wiresOf, joined}
+use Rattle.board.specs.State.{board, resetBoard, withController, turn, refused}
+use Rattle.board.specs.Wires.{joined}
 use Rattle.board.specs.Formed.{wellFormed}
 use Rattle.board.specs.Tick.{ticks, firings}
-use Rattle.board.specs.Step.{byController, byTimers, readingOf, writingOf, wiringOf, endingOf, advancingOf, deliveringOnBoard, servedOf, turnOf}
+use Rattle.board.specs.Step.{byController, byTimers, inWindow, readingOf, writingOf, wiringOf, endingOf, advancingOf, deliveringOnBoard, servedOf, turnOf}
 use Rattle.board.specs.Runs.{run, testsOf}
 use Rattle.board.proofs.Formed.{Sized, Formed, formed-in, formed-out}
 use Rattle.board.proofs.Ticks.{ticks-add, firings-add, ticks-formed, ticks-timers, ticks-firings}
-use Rattle.board.proofs.Keeps.{keeps, served, unformed, step-formed}
+use Rattle.board.proofs.Keeps.{keeps, served, step-formed}
+use Rattle.board.proofs.Windows.{joined-same}
 
 -- ---- demand 1: "A bad width, address, pin, number, state or log record gets the refusal that document 01 names, exactly when 01 says so;
 -- the state handed back is the one that came in, … and a refused read gives zero."
@@ -71,21 +68,21 @@ module _ (b : Board) where
   of-controller : (ts : List Test) (t : ControllerTurn) → Decided Controller ts (b .controller) (t .controller) (t .answer) → DecidedTurn b ts (byController b t)
   of-controller ts t d = record { number = d .number; same = λ f. ap (withController b) (d .same f) }
 
-  -- a last test that never holds
-  no-more : (t u : Test) (r : Turn) → DecidedTurn b (t ∷ u ∷ []) r → DecidedTurn b (t ∷ u ∷ test 4 false ∷ []) r
-  unfolding firstNumber
-  no-more t u r d = record { number = d .number; same = d .same }
+  -- 1 for an unknown window, then what the window's own tests decide
+  in-window :
+      (n : ℕ) (cs ss : List Test) (c t : Turn) → DecidedTurn b cs c → DecidedTurn b ss t →
+      DecidedTurn b (test 1 (not (eqb n 0 || eqb n 1)) ∷ cond (eqb n 0) cs ss) (inWindow b n c t)
+  unfolding numberOf
+  in-window n cs ss c t d e = go (eqb n 0) (eqb n 1)
+    where
+      go : (x y : Bool) → DecidedTurn b (test 1 (not (x || y)) ∷ cond x cs ss) (cond x c (cond y t (refused b refusal.Window)))
+      go true y = passes 1 cs c d
+      go false true = passes 1 ss t e
+      go false false = refuses 1 ss refusal.Window refl
 
 module _ (b : Board) (z : Formed b) where
-  -- joined again, the same parts are the same board
-  joined-same : joined (b .controller) (b .timers) (b .outside) ≡ b
-  unfolding joined
-  joined-same =
-      ap (λ (l : List ℕ). board (rewired (b .controller) l) (b .timers) (b .outside)) (sym (z .wired))
-      ∙ ap (λ e. board (withEntries (b .controller) e) (b .timers) (b .outside)) (wired-same (b .controller .entries) (z .sized))
-
   timers-same : (s : Timers) → s ≡ b .timers → joined (b .controller) s (b .outside) ≡ b
-  timers-same s e = ap (λ (x : Timers). joined (b .controller) x (b .outside)) e ∙ joined-same
+  timers-same s e = ap (λ (x : Timers). joined (b .controller) x (b .outside)) e ∙ joined-same b z
 
   -- what is decided of the timers' turn is decided of the board's
   of-timers : (ts : List Test) (t : TimersTurn) → Decided Timers ts (b .timers) (t .timers) (t .answer) → DecidedTurn b ts (byTimers b t)
@@ -93,35 +90,6 @@ module _ (b : Board) (z : Formed b) where
 
   of-timers-read : (ts : List Test) (t : TimersTurn) → Decided Timers ts (b .timers) (t .timers) (t .answer) → DecidedTurn b ts (turn b (t .answer))
   of-timers-read ts t d = record { number = d .number; same = λ f. refl }
-
-  reading-window : (n w o : ℕ) → DecidedTurn b (test 1 (not (eqb n 0 || eqb n 1)) ∷ test 2 (not (cond (eqb n 0) (eqb w 4) (aligned w o))) ∷ test 1 (not (cond (eqb n 0) (eqb o 0 || eqb o 0x10) (inside o))) ∷ []) (readingOf b n w o)
-  unfolding readingOf numberOf
-  reading-window n w o = go (eqb n 0) (eqb n 1)
-    where
-      go :
-          (x y : Bool) →
-          DecidedTurn b (test 1 (not (x || y)) ∷ test 2 (not (cond x (eqb w 4) (aligned w o))) ∷ test 1 (not (cond x (eqb o 0 || eqb o 0x10) (inside o))) ∷ [])
-          (cond x (byController b (controllerReading (b .controller) w o)) (cond y (turn b (timersReading (b .timers) w o .answer)) (refused b refusal.Window)))
-      go true y = passes b 1 _ _ (of-controller b _ (controllerReading (b .controller) w o) (reading-decided (b .controller) w o))
-      go false true = passes b 1 _ _ (of-timers-read _ (timersReading (b .timers) w o) (timers-reading-decided (b .timers) w o))
-      go false false = refuses b 1 _ refusal.Window refl
-
-  writing-window :
-      (n w o v : ℕ) →
-      DecidedTurn b
-      (test 1 (not (eqb n 0 || eqb n 1)) ∷ test 2 (not (cond (eqb n 0) (eqb w 4) (aligned w o))) ∷ test 1 (not (cond (eqb n 0) (eqb o 0 || eqb o 0x10) (inside o))) ∷ test 4 (not (not (eqb n 0) || ltb v (2 ^ 32))) ∷ [])
-      (writingOf b n w o v)
-  unfolding writingOf numberOf
-  writing-window n w o v = go (eqb n 0) (eqb n 1)
-    where
-      go :
-          (x y : Bool) →
-          DecidedTurn b
-          (test 1 (not (x || y)) ∷ test 2 (not (cond x (eqb w 4) (aligned w o))) ∷ test 1 (not (cond x (eqb o 0 || eqb o 0x10) (inside o))) ∷ test 4 (not (not x || ltb v (2 ^ 32))) ∷ [])
-          (cond x (byController b (controllerWriting (b .controller) w o v)) (cond y (byTimers b (timersWriting (b .timers) w o v)) (refused b refusal.Window)))
-      go true y = passes b 1 _ _ (of-controller b _ (controllerWriting (b .controller) w o v) (writing-decided (b .controller) w o v))
-      go false true = passes b 1 _ _ (no-more b _ _ _ (of-timers _ (timersWriting (b .timers) w o v) (timers-writing-decided (b .timers) w o v)))
-      go false false = refuses b 1 _ refusal.Window refl
 
 module _ (b : Board) (s : Sized b) where
   -- refusal 5 is tested first
@@ -134,9 +102,17 @@ module _ (b : Board) (s : Sized b) where
       go false e = refuses b 5 ts refusal.State refl
 
   decided : (c : Call) → DecidedTurn b (testsOf b c) (turnOf b c)
-  unfolding turnOf servedOf testsOf wiringOf endingOf advancingOf deliveringOnBoard numberOf numbersOf
-  decided (call.Read n w o) = first-test _ (readingOf b n w o) (λ z. reading-window b z n w o)
-  decided (call.Write n w o v) = first-test _ (writingOf b n w o v) (λ z. writing-window b z n w o v)
+  unfolding turnOf servedOf testsOf readingOf writingOf wiringOf endingOf advancingOf deliveringOnBoard numberOf numbersOf
+  decided (call.Read n w o) =
+      first-test _ _
+      (λ z. in-window b n _ _ _ _
+      (of-controller b _ (controllerReading (b .controller) w o) (reading-decided (b .controller) w o))
+      (of-timers-read b z _ (timersReading (b .timers) w o) (timers-reading-decided (b .timers) w o)))
+  decided (call.Write n w o v) =
+      first-test _ _
+      (λ z. in-window b n _ _ _ _
+      (of-controller b _ (controllerWriting (b .controller) w o v) (writing-decided (b .controller) w o v))
+      (of-timers b z _ (timersWriting (b .timers) w o v) (timers-writing-decided (b .timers) w o v)))
   decided (call.Wire p l) =
       first-test _ _
       (λ z. then b 3 _ refusal.Pin _ (ltb p 24) refl
@@ -144,6 +120,7 @@ module _ (b : Board) (s : Sized b) where
   decided (call.End v) = first-test [] _ (λ z. done-decided b (withController b (afterEnd (b .controller) v)) answer.Done refl)
   decided (call.Advance n) = first-test [] _ (λ z. done-decided b (ticks n b) (answer.Fired (firings 0 n b) (firings 1 n b) (firings 2 n b)) refl)
   decided call.Deliver = first-test [] (byController b (deliveringOf (b .controller))) (λ z. of-controller b [] (deliveringOf (b .controller)) (delivering-decided (b .controller)))
+  decided call.Reset = done-decided b resetBoard answer.Done refl
 
   module _ (c : Call) where
     -- "Given exactly when": a number is answered if and only if its test holds and none before it does

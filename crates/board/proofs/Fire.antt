@@ -3,21 +3,18 @@ use Prim.Native.Nat.{ℕ, _<_}
 use mathlib.Core.Path.{_≡_, refl, sym, ap, subst, _∙_}
 use mathlib.Core.Bool.{Bool, true, false, cond, not, _&&_, _||_}
 use mathlib.Core.List.{List}
-use lib.Dec.{leb}
-use lib.ListN.{getD, length}
 use Rattle.pins.proofs.Bools.{and-left, and-right, and-both}
 use Rattle.entries.specs.declared.Entries.{Entries}
-use Rattle.entries.specs.Table.{entriesOk, levelsOk, levelAt, wired, pulsed}
+use Rattle.entries.specs.Table.{entriesOk, levelsOk, wired, pulsed}
 use Rattle.entries.proofs.Sized.{Sized as EntriesSized, wired-sized}
 use Rattle.entries.proofs.Formed.{wired-ok}
 use Rattle.entries.proofs.Pulse.{settled, wired-same, wired-level, wired-settled, pulse-rests, pulse-settled, pulsed-settled, pulsed-ok, pulsed-sized, pulsed-level, pulsed-is}
 use Rattle.controller.specs.declared.Controller.{Controller}
 use Rattle.controller.specs.State.{withEntries, wellFormed as controllerFormed}
 use Rattle.controller.specs.Steps.{rewired}
-use Rattle.controller.proofs.Formed.{Formed as ControllerFormed, formed, well-formed}
+use Rattle.controller.proofs.Formed.{formed, well-formed}
 use Rattle.timers.specs.declared.Timers.{Timers}
-use Rattle.timers.specs.Formed.{wellFormed as timersFormed}
-use Rattle.timers.specs.Tick.{firedOf, pulsesOf, routeOf, drivesOf}
+use Rattle.timers.specs.Tick.{firedOf, pulsesOf, routeOf}
 use Rattle.timers.proofs.Formed.{route-pin, fired-formed}
 use Rattle.timers.proofs.Wires.{risenOf, pulses-risen, fired-pulses, fired-route, fired-risen, fired-risen-kept, fired-drives-same, fired-drives-more}
 use Rattle.board.specs.declared.Board.{Board}

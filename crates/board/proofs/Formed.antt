@@ -1,10 +1,9 @@
 -- A well-formed board as facts by name, and the laws between these and the test.
 use Prim.Native.Nat.{ℕ, _<_}
-use mathlib.Core.Path.{_≡_, refl, sym, ap, _∙_}
+use mathlib.Core.Path.{_≡_, sym, ap, _∙_}
 use mathlib.Core.Bool.{Bool, true, _&&_}
 use mathlib.Core.List.{List}
-use lib.Dec.{eqb}
-use lib.ListN.{getD, length}
+use lib.ListN.{getD}
 use lib.Seq.{ext-getD}
 use mir.Val.{boolByte}
 use borrow.Author.Tests.{eq-eqb, eqb-true}

@@ -1,10 +1,10 @@
--- A held edge on the board is lost only by its delivery or by a low-word write that leaves the pin level; and bit 12.
+-- A held edge on the board is lost only by its delivery, by a low-word write that leaves the pin level, or by a reset; and bit 12.
 use Prim.Native.Nat.{ℕ, zero, suc, _+_, _*_, _/_, _%_, _^_, _<_}
 use mathlib.Core.Path.{_≡_, refl, sym, ap, _∙_}
 use mathlib.Core.Bool.{Bool, true, false, cond}
 use mathlib.Core.List.{List, [], _∷_}
 use lib.Dec.{leb, ltb, eqb}
-use lib.ListN.{getD, set}
+use lib.ListN.{getD, set, getD-replicate}
 use mir.Val.{boolByte}
 use borrow.Author.Tests.{eqb-true}
 use Rattle.answers.specs.declared.Answer.the-variants as answer
@@ -20,7 +20,8 @@ use Rattle.controller.specs.Window.{readingOf as controllerReading, writingOf a
 use Rattle.controller.specs.Steps.{rewired}
 use Rattle.controller.specs.Calls.{write as writeCall, deliver as deliverCall}
 use Rattle.controller.proofs.Formed.{reading-same}
-use Rattle.controller.proofs.Demands.{Loses as ControllerLoses, delivered as controller-delivered, made-level as controller-made-level, held-kept as controller-held-kept, held-lost as controller-held-lost, read-served, write-served, deliver-served, deliver-is, status-read as controller-status-read}
+use Rattle.controller.proofs.Demands.{read-served, write-served, deliver-served, deliver-is, status-read as controller-status-read}
+use Rattle.controller.proofs.Held.{Loses as ControllerLoses, delivered as controller-delivered, made-level as controller-made-level, held-kept as controller-held-kept, held-lost as controller-held-lost}
 use Rattle.timers.specs.declared.Timers.{Timers}
 use Rattle.timers.specs.State.{isEnabled}
 use Rattle.timers.specs.Tick.{matchesOf, firedOf, pulsesOf, routeOf}
@@ -62,7 +63,7 @@ module _ (p : ℕ) (l : p < 24) where
       go true = wired-keeps (up .entries) w p l (wired-keeps (b .controller .entries) (set w (routeOf (b .timers) m) 1) p l h)
       go false = wired-keeps (b .controller .entries) w p l h
 
-  turned-held : (m : ℕ) (b : Board) → Held p b → Held p (turned m b)
+  pub turned-held : (m : ℕ) (b : Board) → Held p b → Held p (turned m b)
   unfolding turned
   turned-held m b h = go (matchesOf (b .timers) m)
     where
@@ -75,7 +76,7 @@ module _ (p : ℕ) (l : p < 24) where
   turns-held zero b h = h
   turns-held (suc m) b h = turned-held m (upTo m b) (turns-held m b h)
 
-  tick-held : (b : Board) → Held p b → Held p (tick b)
+  pub tick-held : (b : Board) → Held p b → Held p (tick b)
   unfolding tick
   tick-held b h = go (isEnabled (b .timers))
     where
@@ -90,10 +91,11 @@ module _ (p : ℕ) (l : p < 24) where
 
 -- ---- "If it leaves the pin level, a held edge is dropped; otherwise the held edge stays, masked or not"; "An edge pin loses its held edge"
 
--- what loses pin p's held edge: its delivery, or a low-word write that leaves the pin level (a refused write loses nothing)
+-- what loses pin p's held edge: its delivery, a low-word write that leaves the pin level (a refused write loses nothing), or a reset
 pub data Loses (b : Board) (p : ℕ) : Call → Type 0 where
   delivered : turnOf b call.Deliver .answer ≡ given (b .controller .entries) p → Loses b p call.Deliver
   made-level : (v : ℕ) → b .controller .index ≡ 0x10 + 2 * p → v < 2 ^ 32 → levelOf v ≡ true → Loses b p (call.Write 0 4 0x10 v)
+  reset : Loses b p call.Reset
 
 module _ (b : Board) (z : Formed b) (p : ℕ) (l : p < 24) (h : Held p b) where
   abbrev c : Controller
@@ -151,12 +153,13 @@ module _ (b : Board) (z : Formed b) (p : ℕ) (l : p < 24) (h : Held p b) where
   served-held call.Deliver f =
       ap (λ (t : ControllerTurn). heldAt (t .controller .entries) p) (sym (deliver-is c ∙ deliver-served c (z .controlled)))
       ∙ controller-held-kept c (z .sized) p l h deliverCall (λ k. f (deliver-loses k))
+  served-held call.Reset f = absurd (f reset)
 
-  -- any call keeps a held edge, unless it is one of the two that lose it
+  -- any call keeps a held edge, unless it is one of the three that lose it
   pub held-kept : (k : Call) → (Loses b p k → ⊥) → heldAt (turnOf b k .board .controller .entries) p ≡ 1
   held-kept k f = ap (λ (t : Turn). heldAt (t .board .controller .entries) p) (served b k (formed-out b z)) ∙ served-held k f
 
-  -- … and each of the two loses it
+  -- … and each of the three loses it
   pub held-lost : (k : Call) → Loses b p k → heldAt (turnOf b k .board .controller .entries) p ≡ 0
   unfolding servedOf writingOf deliveringOnBoard
   held-lost _ (delivered e) =
@@ -170,6 +173,7 @@ module _ (b : Board) (z : Formed b) (p : ℕ) (l : p < 24) (h : Held p b) where
       ap (λ (t : Turn). heldAt (t .board .controller .entries) p) (served b (call.Write 0 4 0x10 v) (formed-out b z))
       ∙ ap (λ (t : ControllerTurn). heldAt (t .controller .entries) p) (sym (write-served c (z .controlled) 4 0x10 v))
       ∙ controller-held-lost c (z .sized) p l h (z .controlled) (writeCall 4 0x10 v) (controller-made-level 4 0x10 v refl refl i u t)
+  held-lost _ reset = ap (λ (t : Turn). heldAt (t .board .controller .entries) p) (served b call.Reset (formed-out b z)) ∙ getD-replicate 24 p 0 0 l
 
 -- any sequence of calls of which none loses it keeps it too
 unfoldable pub NoneLoses : Board → ℕ → List Call → Type 0

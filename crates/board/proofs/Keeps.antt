@@ -1,23 +1,20 @@
 -- Every call turns a well-formed board into one.
 use Prim.Native.Nat.{ℕ}
-use mathlib.Core.Path.{_≡_, refl, sym, ap, subst, _∙_}
+use mathlib.Core.Path.{_≡_, refl, sym, subst, _∙_}
 use mathlib.Core.Bool.{Bool, true, false, cond}
-use mathlib.Core.List.{List}
 use lib.Dec.{leb, ltb, eqb}
-use lib.ListN.{set, replicate}
-use Rattle.answers.specs.declared.Answer.{Answer}
+use lib.ListN.{set}
 use Rattle.answers.specs.declared.Answer.the-variants as answer
 use Rattle.answers.specs.declared.Refusal.the-variants as refusal
-use Rattle.entries.proofs.Sized.{Sized as EntriesSized}
 use Rattle.entries.proofs.Pulse.{set-ok}
 use Rattle.entries.proofs.Delivery.{ended-level}
 use Rattle.controller.specs.declared.Controller.{Controller}
 use Rattle.controller.specs.declared.Turn.{Turn as ControllerTurn}
 use Rattle.controller.specs.Window.{readingOf as controllerReading, writingOf as controllerWriting}
-use Rattle.controller.specs.Steps.{afterEnd, deliveringOf}
-use Rattle.controller.proofs.Formed.{Keeps, reading-same, writing-keeps, writing-levels, ended-keeps, delivering-keeps, delivering-levels, reset-formed as controller-reset-formed}
+use Rattle.controller.specs.Steps.{deliveringOf}
+use Rattle.controller.proofs.Formed.{Keeps, reading-same, writing-keeps, writing-levels, ended-keeps, delivering-keeps, delivering-levels}
 use Rattle.timers.specs.Call.{readingOf as timersReading, writingOf as timersWriting}
-use Rattle.timers.proofs.Formed.{writing-formed, reset-formed as timers-reset-formed}
+use Rattle.timers.proofs.Formed.{writing-formed}
 use Rattle.board.specs.declared.Board.{Board}
 use Rattle.board.specs.declared.Call.{Call}
 use Rattle.board.specs.declared.Call.the-variants as call
@@ -29,6 +26,17 @@ use Rattle.board.specs.Sheet.{reset-formed as computed}
 use Rattle.board.specs.Step.{byController, byTimers, readingOf, writingOf, wiringOf, endingOf, advancingOf, deliveringOnBoard, servedOf, turnOf}
 use Rattle.board.proofs.Formed.{Sized, Formed, formed-in, formed-out, joined-formed}
 use Rattle.board.proofs.Ticks.{ticks-formed}
+use Rattle.board.proofs.Served.{formed-taken, turn-served}
+
+-- reset
+pub reset-sized : Sized resetBoard
+reset-sized = record { low = refl; destination = refl; level = refl; held = refl }
+
+pub reset-formed : wellFormed resetBoard ≡ true
+reset-formed = computed
+
+pub reset : Formed resetBoard
+reset = formed-in resetBoard reset-formed reset-sized
 
 module _ (b : Board) (z : Formed b) where
   -- a controller that a call left well formed, with the levels that it had
@@ -77,32 +85,13 @@ module _ (b : Board) (z : Formed b) where
       record { controlled = k .formed; timed = z .timed; outer = z .outer; wired = ended-level (b .controller .entries) v ∙ z .wired; sized = k .sized }
   served-keeps (call.Advance n) = ticks-formed b z n
   served-keeps call.Deliver = with-controller (deliveringOf (b .controller)) (delivering-keeps (b .controller) (z .controlled) (z .sized)) (delivering-levels (b .controller))
-
-  pub keeps : (c : Call) → Formed (turnOf b c .board)
-  unfolding turnOf
-  keeps c = rw (formed-out b z) (served-keeps c)
-
--- a refused board is the one that came in
-pub unformed : (b : Board) (c : Call) → wellFormed b ≡ false → turnOf b c ≡ refused b refusal.State
-unfolding turnOf
-unformed b c e = rw e
+  served-keeps call.Reset = reset
 
 pub served : (b : Board) (c : Call) → wellFormed b ≡ true → turnOf b c ≡ servedOf b c
-unfolding turnOf
-served b c e = rw e
+served b c e = turn-served b c (formed-taken b c e)
+
+pub keeps : (b : Board) → Formed b → (c : Call) → Formed (turnOf b c .board)
+keeps b z c = subst (λ (t : Turn). Formed (t .board)) (sym (served b c (formed-out b z))) (served-keeps b z c)
 
 pub step-formed : (b : Board) (c : Call) → Sized b → wellFormed b ≡ true → wellFormed (turnOf b c .board) ≡ true
 step-formed b c s e = formed-out (turnOf b c .board) (keeps b (formed-in b e s) c)
-
-pub step-sized : (b : Board) (c : Call) → Sized b → wellFormed b ≡ true → Sized (turnOf b c .board)
-step-sized b c s e = keeps b (formed-in b e s) c .sized
-
--- reset
-pub reset-sized : Sized resetBoard
-reset-sized = record { low = refl; destination = refl; level = refl; held = refl }
-
-pub reset-formed : wellFormed resetBoard ≡ true
-reset-formed = computed
-
-pub reset : Formed resetBoard
-reset = formed-in resetBoard reset-formed reset-sized

@@ -4,7 +4,6 @@ use mathlib.Core.Path.{_≡_, refl, ap}
 use mathlib.Core.Bool.{Bool, true, false, cond}
 use lib.Dec.{eqb}
 use Rattle.answers.specs.declared.Refusal.the-variants as refusal
-use Rattle.controller.specs.declared.Controller.{Controller}
 use Rattle.controller.specs.Window.{readingOf as controllerReading}
 use Rattle.controller.proofs.Formed.{reading-same}
 use Rattle.timers.specs.Call.{readingOf as timersReading}

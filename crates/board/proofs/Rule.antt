@@ -12,7 +12,8 @@ use Rattle.pins.proofs.Fill.{getD-tab, length-tab}
 use Rattle.entries.specs.Table.{levelsOk}
 use Rattle.entries.proofs.Formed.{levels-of}
 use Rattle.timers.specs.declared.Timers.{Timers}
-use Rattle.timers.specs.Tick.{drivesOf, drivenOf}
+use Rattle.timers.specs.Tick.{drivesOf}
+use Rattle.timers.specs.Inner.{drivenOf}
 use Rattle.timers.proofs.Wires.{drives-pin}
 use Rattle.board.specs.Wires.{highAt, wiresOf}
 

@@ -1,23 +1,34 @@
--- The promise of a call in its two cases: on a well-formed board it is what the call does, on another the refusal 5.
-use mathlib.Core.Path.{_≡_, refl}
-use mathlib.Core.Bool.{true, false}
+-- The promise of a call in its two cases: on a board that it takes it is what the call does, on another the refusal 5.
+use mathlib.Core.Path.{_≡_, refl, ap}
+use mathlib.Core.Bool.{Bool, true, false, cond}
 use Prim.Native.Nat.{ℕ}
+use Rattle.answers.specs.declared.Answer.the-variants as answer
 use Rattle.answers.specs.declared.Refusal.the-variants as refusal
 use Rattle.board.specs.declared.Board.{Board}
 use Rattle.board.specs.declared.Call.{Call}
 use Rattle.board.specs.declared.Call.the-variants as call
-use Rattle.board.specs.State.{refused}
+use Rattle.board.specs.State.{resetBoard, turn, refused}
 use Rattle.board.specs.Formed.{wellFormed}
-use Rattle.board.specs.Step.{readingOf, writingOf, wiringOf, endingOf, advancingOf, deliveringOnBoard, servedOf, turnOf}
+use Rattle.board.specs.Step.{readingOf, writingOf, wiringOf, endingOf, advancingOf, deliveringOnBoard, servedOf, takes, turnOf}
 
 module _ (b : Board) where
-  pub turn-served : (c : Call) → wellFormed b ≡ true → turnOf b c ≡ servedOf b c
-  unfolding turnOf
-  turn-served c e = rw e
+  -- every call takes a well-formed board
+  pub formed-taken : (c : Call) → wellFormed b ≡ true → takes b c ≡ true
+  formed-taken (call.Read window width offset) e = e
+  formed-taken (call.Write window width offset value) e = e
+  formed-taken (call.Wire pin level) e = e
+  formed-taken (call.End vector) e = e
+  formed-taken (call.Advance n) e = e
+  formed-taken call.Deliver e = e
+  formed-taken call.Reset e = refl
 
-  pub turn-refused : (c : Call) → wellFormed b ≡ false → turnOf b c ≡ refused b refusal.State
+  pub turn-served : (c : Call) → takes b c ≡ true → turnOf b c ≡ servedOf b c
   unfolding turnOf
-  turn-refused c e = rw e
+  turn-served c e = ap (λ (x : Bool). cond x (servedOf b c) (refused b refusal.State)) e
+
+  pub turn-refused : (c : Call) → takes b c ≡ false → turnOf b c ≡ refused b refusal.State
+  unfolding turnOf
+  turn-refused c e = ap (λ (x : Bool). cond x (servedOf b c) (refused b refusal.State)) e
 
   -- what each call does
 
@@ -44,3 +55,8 @@ module _ (b : Board) where
   pub served-deliver : servedOf b call.Deliver ≡ deliveringOnBoard b
   unfolding servedOf
   served-deliver = refl
+
+  -- whatever the board was
+  pub turn-reset : turnOf b call.Reset ≡ turn resetBoard answer.Done
+  unfolding turnOf servedOf
+  turn-reset = refl

@@ -11,13 +11,12 @@ use Rattle.entries.proofs.Pulse.{settled}
 use Rattle.controller.specs.declared.Controller.{Controller}
 use Rattle.timers.specs.declared.Timers.{Timers}
 use Rattle.timers.specs.State.{isEnabled}
-use Rattle.timers.specs.Tick.{countedOf, matchesOf, firedOf, turnedOf, pulsesOf, routeOf, upTo as timersUpTo, tick as timersTick, firesIn as timersFiresIn}
+use Rattle.timers.specs.Tick.{countedOf, matchesOf, turnedOf, pulsesOf, routeOf, upTo as timersUpTo, tick as timersTick, firesIn as timersFiresIn}
 use Rattle.timers.proofs.Each.{tick-on, tick-off}
 use Rattle.timers.proofs.Wires.{risenOf, counted-drives, counted-risen, counted-pulses, counted-route, fired-matches}
-use Rattle.timers.proofs.Turns.{turned-fires, turned-rests, turns-zero, turns-suc, turns-matches, turns-pulses, turns-route, turns-risen, fires-on, fires-when, fires-off}
+use Rattle.timers.proofs.Turns.{turned-fires, turned-rests, turns-zero, turns-suc, turns-matches, fires-on, fires-when, fires-off}
 use Rattle.timers.proofs.Formed.{counted-formed}
 use Rattle.board.specs.declared.Board.{Board}
-use Rattle.board.specs.Wires.{wiresOf}
 use Rattle.board.specs.Tick.{fire, turned, upTo, tick, firesIn}
 use Rattle.board.proofs.Rule.{wires-same}
 use Rattle.board.proofs.Formed.{Formed}
@@ -137,23 +136,10 @@ module _ (b : Board) (z : Formed b) where
   pub turns-match : (m : ℕ) → m < 3 → matchesOf (upTo m b .timers) m ≡ due m
   turns-match m l = ap (λ (x : Timers). matchesOf x m) (turns-timers m) ∙ turns-matches s m m l (omega arith)
 
-  still-later : (m j : ℕ) → j < 3 → Still j b → still (b .controller) (upTo m b .timers) j ≡ true
-  still-later m j k q =
-      ap (λ (x : Timers). still (b .controller) x j) (turns-timers m)
-      ∙ still-over (b .controller) s (timersUpTo m s) j (turns-risen s j m k) (turns-pulses s j m k) (turns-route s j m k) q
-
   pub turns-keep : (j : ℕ) → j < 3 → (m : ℕ) → m ≤ 3 → Still j b → Still j (upTo m b)
   unfolding upTo
   turns-keep j k zero l q = still-over (b .controller) s (countedOf s) j (λ r. counted-risen s j ∙ r) (counted-pulses s j) (counted-route s j) q
   turns-keep j k (suc m) l q = turned-keep (upTo m b) (turns-formed m (omega arith)) m l j k (turns-keep j k m (omega arith) q)
-
-  turns-quiet : ((m : ℕ) → m < 3 → due m ≡ true → Still m b) → (m : ℕ) → m ≤ 3 → upTo m b .controller ≡ b .controller
-  unfolding upTo
-  turns-quiet q zero l = refl
-  turns-quiet q (suc m) l =
-      turned-quiet (upTo m b) (turns-formed m (omega arith)) m l
-      (λ e. ap (λ (x : Controller). still x (upTo m b .timers) m) (turns-quiet q m (omega arith)) ∙ still-later m m l (q m l (sym (turns-match m l) ∙ e)))
-      ∙ turns-quiet q m (omega arith)
 
   turns-pend : (j : ℕ) → j < 3 → Pend 0 j (upTo 0 b) → (m : ℕ) → m ≤ 3 → Pend m j (upTo m b)
   unfolding upTo
@@ -218,12 +204,3 @@ module _ (b : Board) (z : Formed b) where
       go true e (inr h) = turns-still j k (inr (sym (fires-on s j k e) ∙ h))
       go false e (inl h) = h
       go false e (inr h) = clash (sym h ∙ fires-off s j e)
-
-  -- where every timer that fires in it was still, no pin changes
-  pub tick-quiet : ((m : ℕ) → m < 3 → timersFiresIn s m ≡ true → Still m b) → tick b .controller ≡ b .controller
-  unfolding tick
-  tick-quiet q = go (isEnabled s) refl
-    where
-      go : (x : Bool) → isEnabled s ≡ x → cond x (upTo 3 b) b .controller ≡ b .controller
-      go true e = turns-quiet (λ m l d. q m l (fires-on s m l e ∙ d)) 3 (lit≤ tt)
-      go false e = refl

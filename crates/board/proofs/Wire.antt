@@ -1,7 +1,7 @@
 -- A change of one outside wire is a change at one pin of a well-formed board.
 use Prim.Native.Nat.{ℕ, _<_}
-use mathlib.Core.Path.{_≡_, refl, sym, ap, _∙_}
-use mathlib.Core.Bool.{Bool, _||_}
+use mathlib.Core.Path.{_≡_, sym, ap, _∙_}
+use mathlib.Core.Bool.{_||_}
 use mathlib.Core.List.{List}
 use native.Mathlib.Decide.{ℕ-discrete}
 use lib.Dec.{eqb}
@@ -12,7 +12,8 @@ use Rattle.entries.specs.Table.{wired}
 use Rattle.entries.proofs.Pulse.{wired-one}
 use Rattle.controller.specs.declared.Controller.{Controller}
 use Rattle.controller.specs.State.{withEntries}
-use Rattle.controller.specs.Steps.{rewired, rewiredAt}
+use Rattle.controller.specs.Steps.{rewired}
+use Rattle.controller.specs.Inner.{rewiredAt}
 use Rattle.timers.specs.declared.Timers.{Timers}
 use Rattle.timers.specs.Tick.{drivesOf}
 use Rattle.board.specs.declared.Board.{Board}

@@ -1,21 +1,19 @@
 -- The calls as the code makes them, at the pins that can change: only inner functions cite these.
 -- `proofs/At.antt` has that on a well-formed board each is the call of `Step.antt`.
-use Prim.Native.Nat.{ℕ, zero, suc}
-use mathlib.Core.Bool.{Bool, cond, _||_}
-use mathlib.Core.List.{List}
+use Prim.Native.Nat.{ℕ, _%_}
+use mathlib.Core.Bool.{cond, _||_}
+use mathlib.Core.List.{List, _∷_, []}
 use lib.Dec.{eqb, leb, ltb}
 use lib.ListN.{getD, set}
 use mir.Val.{boolByte}
 use Rattle.answers.specs.declared.Answer.the-variants as answer
 use Rattle.answers.specs.declared.Refusal.the-variants as refusal
-use Rattle.entries.specs.declared.Entries.{Entries}
-use Rattle.entries.specs.Pin.{heldAfter}
-use Rattle.entries.specs.Table.{lowAt, levelAt, heldAt, withHeld, withLevel}
-use Rattle.controller.specs.State.{withEntries}
-use Rattle.controller.specs.Steps.{rewiredAt}
+use Rattle.entries.specs.Strike.{pulse, rise}
+use Rattle.controller.specs.Inner.{rewiredAt, struckOf}
 use Rattle.timers.specs.declared.Timers.{Timers}
 use Rattle.timers.specs.declared.Ran.{Ran}
-use Rattle.timers.specs.Tick.{drivesOf, pulsesOf, raisesOf, routeOf, ranOf}
+use Rattle.timers.specs.Tick.{drivesOf, pulsesOf, routeOf}
+use Rattle.timers.specs.Inner.{raisesOf, ranOf}
 use Rattle.board.specs.declared.Board.{Board}
 use Rattle.board.specs.declared.Turn.{Turn}
 use Rattle.board.specs.State.{board, turn, refused}
@@ -34,37 +32,31 @@ wiringAt b pin level =
     (refused b refusal.Level))
     (refused b refusal.Pin)
 
--- ---- an advance: each timer's pin, at the tick at which the timer first fires
+-- ---- an advance: each timer that fires strikes its pin, at its first firing
 
--- a pin's level and held edge after a firing that is a pulse, or raises the wire for good, or does neither
-unfoldable pub struckLevel : Bool → Bool → ℕ → ℕ
-struckLevel pulse rise before = cond pulse before (cond rise 1 before)
+-- timer m's strike, as the controller has it: a pulse of its pin's wire, or a rise of it, or neither
+unfoldable pub strikeAt : Timers → ℕ → ℕ
+strikeAt s m = cond (pulsesOf s m) (pulse (routeOf s m % 256)) (cond (raisesOf s m) (rise (routeOf s m % 256)) 0)
 
-unfoldable pub struckHeld : ℕ → Bool → Bool → ℕ → ℕ → ℕ
-struckHeld w pulse rise before held =
-    cond pulse (heldAfter w 1 before (heldAfter w before 1 held)) (cond rise (heldAfter w before 1 held) held)
+-- none, where it first fires at tick 0: never
+unfoldable pub strikeOf : Timers → ℕ → ℕ → ℕ
+strikeOf s m f = cond (eqb f 0) 0 (strikeAt s m)
 
--- the firing of timer m
-unfoldable pub strike : Timers → ℕ → Entries → Entries
-strike s m e =
-    let p = routeOf s m in
-    withLevel (withHeld e (set (e .held) p (struckHeld (lowAt e p) (pulsesOf s m) (raisesOf s m) (levelAt e p) (heldAt e p))))
-    (set (e .level) p (struckLevel (pulsesOf s m) (raisesOf s m) (levelAt e p)))
+-- three strikes in the order of their ticks; in one tick, as they come
+unfoldable pub ordered : List ℕ → ℕ → ℕ → ℕ → List ℕ
+ordered f a b c =
+    cond (ltb (getD f 1 0) (getD f 0 0))
+    (cond (ltb (getD f 2 0) (getD f 1 0)) (c ∷ b ∷ a ∷ []) (cond (ltb (getD f 2 0) (getD f 0 0)) (b ∷ c ∷ a ∷ []) (b ∷ a ∷ c ∷ [])))
+    (cond (ltb (getD f 2 0) (getD f 0 0)) (c ∷ a ∷ b ∷ []) (cond (ltb (getD f 2 0) (getD f 1 0)) (a ∷ c ∷ b ∷ []) (a ∷ b ∷ c ∷ [])))
 
--- the firings of those timers below m that fire first at tick t, 0 first, where f has the ticks of the first firings
-unfoldable pub strikes : Timers → List ℕ → ℕ → ℕ → Entries → Entries
-strikes s f t zero e = e
-strikes s f t (suc m) e = cond (eqb (getD f m 0) t) (strike s m (strikes s f t m e)) (strikes s f t m e)
+-- those of the timers, where f has the ticks of their first firings
+unfoldable pub strikesOf : Timers → List ℕ → List ℕ
+strikesOf s f = ordered f (strikeOf s 0 (getD f 0 0)) (strikeOf s 1 (getD f 1 0)) (strikeOf s 2 (getD f 2 0))
 
--- those of the ticks from 1 to n
-unfoldable pub struck : Timers → List ℕ → ℕ → Entries → Entries
-struck s f zero e = e
-struck s f (suc t) e = strikes s f (suc t) 3 (struck s f t e)
-
-abbrev pub ranAt : Board → ℕ → Ran → Turn
-ranAt b n r =
-    turn (board (withEntries (b .controller) (struck (b .timers) (r .first) n (b .controller .entries))) (r .timers) (b .outside))
+abbrev pub ranAt : Board → Ran → Turn
+ranAt b r =
+    turn (board (struckOf (b .controller) (strikesOf (b .timers) (r .first))) (r .timers) (b .outside))
     (answer.Fired (getD (r .fired) 0 0) (getD (r .fired) 1 0) (getD (r .fired) 2 0))
 
 unfoldable pub advancingAt : Board → ℕ → Turn
-advancingAt b n = ranAt b n (ranOf (b .timers) n)
+advancingAt b n = ranAt b (ranOf (b .timers) n)

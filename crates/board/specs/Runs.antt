@@ -1,15 +1,15 @@
 -- Sequences of calls, for the statements over any sequence; and the tests of each call in the paper's order.
-use Prim.Native.Nat.{ℕ, _+_, _^_}
-use mathlib.Core.Bool.{Bool, not, cond, _||_}
+use Prim.Native.Nat.{ℕ}
+use mathlib.Core.Bool.{not, cond, _||_}
 use mathlib.Core.List.{List, [], _∷_}
-use lib.Dec.{leb, ltb, eqb}
+use lib.Dec.{eqb}
 use Rattle.answers.specs.declared.Answer.{Answer}
 use Rattle.answers.specs.Order.{Test, test}
-use Rattle.timers.specs.Registers.{aligned, inside}
+use Rattle.controller.specs.Calls.{wireTests, readTests as controllerReadTests, writeTests as controllerWriteTests}
+use Rattle.timers.specs.Calls.{readTests as timersReadTests, writeTests as timersWriteTests}
 use Rattle.board.specs.declared.Board.{Board}
 use Rattle.board.specs.declared.Call.{Call}
 use Rattle.board.specs.declared.Call.the-variants as call
-use Rattle.board.specs.declared.Turn.{Turn}
 use Rattle.board.specs.Formed.{wellFormed}
 use Rattle.board.specs.Step.{turnOf}
 
@@ -27,27 +27,18 @@ answers b (c ∷ cs) = turnOf b c .answer ∷ answers (turnOf b c .board) cs
 abbrev formedTest : Board → Test
 formedTest b = test 5 (not (wellFormed b))
 
-abbrev windowTest : ℕ → Test
-windowTest window = test 1 (not (eqb window 0 || eqb window 1))
+-- 1 for an unknown window, then the window's own tests
+abbrev accessTests : ℕ → List Test → List Test → List Test
+accessTests window controller timers = test 1 (not (eqb window 0 || eqb window 1)) ∷ cond (eqb window 0) controller timers
 
--- the controller: width 4 only; the timers: width 8, offset a multiple of 8
-abbrev widthTest : ℕ → ℕ → ℕ → Test
-widthTest window width offset = test 2 (not (cond (eqb window 0) (eqb width 4) (aligned width offset)))
-
--- the controller: 0x00 and 0x10; the timers: below 0x400
-abbrev offsetTest : ℕ → ℕ → Test
-offsetTest window offset = test 1 (not (cond (eqb window 0) (eqb offset 0 || eqb offset 0x10) (inside offset)))
-
--- a 4-byte write with a value above 4,294,967,295: only the controller has such writes
-abbrev valueTest : ℕ → ℕ → Test
-valueTest window value = test 4 (not (not (eqb window 0) || ltb value (2 ^ 32)))
-
--- refusal 5 first; an access then tests 1 for an unknown window, 2, 1 for the offset, 4; a wire change tests 3, then 4
+-- refusal 5 first; an access then tests 1 for an unknown window, 2, 1 for the offset, 4; a wire change tests 3, then 4; a reset tests nothing
 unfoldable pub testsOf : Board → Call → List Test
-testsOf b (call.Read window width offset) = formedTest b ∷ windowTest window ∷ widthTest window width offset ∷ offsetTest window offset ∷ []
+testsOf b (call.Read window width offset) =
+    formedTest b ∷ accessTests window (controllerReadTests width offset) (timersReadTests width offset)
 testsOf b (call.Write window width offset value) =
-    formedTest b ∷ windowTest window ∷ widthTest window width offset ∷ offsetTest window offset ∷ valueTest window value ∷ []
-testsOf b (call.Wire pin level) = formedTest b ∷ test 3 (not (ltb pin 24)) ∷ test 4 (not (leb level 1)) ∷ []
+    formedTest b ∷ accessTests window (controllerWriteTests width offset value) (timersWriteTests width offset value)
+testsOf b (call.Wire pin level) = formedTest b ∷ wireTests pin level
 testsOf b (call.End vector) = formedTest b ∷ []
 testsOf b (call.Advance n) = formedTest b ∷ []
 testsOf b call.Deliver = formedTest b ∷ []
+testsOf b call.Reset = []

@@ -1,11 +1,12 @@
 -- The bench sheet, B1 to B12, from reset: one table, one statement.
-use Prim.Native.Nat.{ℕ, _+_, _-_, _*_, _^_}
+use Prim.Native.Nat.{ℕ, _-_, _^_}
 use mathlib.Core.Path.{_≡_, refl}
 use mathlib.Core.Bool.{true}
 use mathlib.Core.List.{List, [], _∷_, _++_, map}
 use Rattle.answers.specs.declared.Answer.{Answer}
-use Rattle.answers.specs.declared.Numbers.{Numbers}
-use Rattle.answers.specs.Numbers.{numberOf, bare, withValue, withFired, withDelivery, numbersOf}
+use Rattle.answers.specs.declared.Refusal.the-variants as refusal
+use Rattle.answers.specs.Numbers.{numberOf}
+use Rattle.answers.specs.Sheet.{ok, value, pin, none, fired, refused}
 use Rattle.pins.specs.Pins.{tab, firstFrom, allFrom}
 use Rattle.entries.specs.Word.{modeOf, remoteOf, levelOf, maskedOf, withRemote, withoutRemote, writable, written, shown, wordOk}
 use Rattle.entries.specs.Pin.{asserted, makesEdge, heldAfter, eligible, endedWord, pinOk}
@@ -30,58 +31,24 @@ use Rattle.board.specs.Tick.{effect, turned, upTo, tick, firesIn, ticks,
 use Rattle.board.specs.Formed.{wellFormed}
 use Rattle.board.specs.Step.{readingOf, writingOf, wiringOf, endingOf, advancingOf, deliveringOnBoard, servedOf, turnOf}
 use Rattle.board.specs.Runs.{answers}
+use Rattle.board.specs.Accesses.{select, put, get, lowWord, set, show}
 
 pub record Line : Type 0 where
   pub calls : List Call
-  pub answered : List Numbers
+  pub answered : List Answer
 
-abbrev line : List Call → List Numbers → Line
+abbrev line : List Call → List Answer → Line
 line c a = record { calls = c; answered = a }
 
--- ---- the controller's window: the index is selected, the data window written or read
-
-abbrev select : ℕ → Call
-select i = call.Write 0 4 0 i
-
-abbrev put : ℕ → Call
-put v = call.Write 0 4 0x10 v
-
-abbrev get : Call
-get = call.Read 0 4 0x10
-
--- entry n's low word
+-- the index is selected, and entry n's low word written
 abbrev entry : ℕ → ℕ → List Call
-entry n v = select (0x10 + 2 * n) ∷ put v ∷ []
-
--- ---- the timers' window
-
-abbrev set : ℕ → ℕ → Call
-set offset v = call.Write 1 8 offset v
-
-abbrev show : ℕ → Call
-show offset = call.Read 1 8 offset
+entry n v = select (lowWord n) ∷ put v ∷ []
 
 abbrev enable : Call
 enable = set 0x010 1
 
--- ---- answers
-
-abbrev ok : Numbers
-ok = bare 0
-
-abbrev value : ℕ → Numbers
-value v = withValue (bare 0) v
-
-abbrev pin : ℕ → ℕ → Numbers
-pin p v = withDelivery (bare 0) p v 0 0
-
-abbrev none : Numbers
-none = bare 0
-
-abbrev fired : ℕ → ℕ → ℕ → Numbers
-fired a b c = withFired (bare 0) (a ∷ b ∷ c ∷ [])
-
 pub sheet : List Line
+unfolding numberOf
 sheet =
     -- B1 index 1 reads 0x00170011
     line (select 1 ∷ get ∷ []) (ok ∷ value 0x00170011 ∷ [])
@@ -119,12 +86,12 @@ sheet =
     -- B11 comparator and period 1, advance 7: seven firings, comparator 8
     ∷ line (set 0x100 0x48 ∷ set 0x108 1 ∷ enable ∷ call.Advance 7 ∷ show 0x108 ∷ []) (ok ∷ ok ∷ ok ∷ fired 7 0 0 ∷ value 8 ∷ [])
     -- B12 controller read, width 8 at 0x04: 2; width 4: 1
-    ∷ line (call.Read 0 8 4 ∷ call.Read 0 4 4 ∷ []) (bare 2 ∷ bare 1 ∷ [])
+    ∷ line (call.Read 0 8 4 ∷ call.Read 0 4 4 ∷ []) (refused 2 refusal.Width refl ∷ refused 1 refusal.Offset refl ∷ [])
     ∷ []
 
 -- the statement computes, so it opens every definition down to the ground
-pub bench : map (λ (l : Line). map numbersOf (answers resetBoard (l .calls))) sheet ≡ map (λ (l : Line). l .answered) sheet
-unfolding sheet answers numberOf numbersOf tab firstFrom allFrom modeOf remoteOf levelOf maskedOf withRemote withoutRemote writable written shown wordOk asserted makesEdge heldAfter eligible endedWord pinOk entriesOk levelsOk firstEligible wired pulsed ended taken lowShown lowWritten controllerFormed dataRead dataWritten controllerReading controllerWriting deliveringOf resetTimer configurationOf configuredOf comparedOf clearedOf meets firing pulsing driving flagsFit narrowFits timerFormed resetTimers timersFormed statusOf timerRegister registerOf timerWritten writtenOf countedOf matchesOf firedOf drivesOf pulsesOf routeOf timersReading timersWriting highAt wiresOf joined effect turned upTo tick firesIn ticks firings wellFormed readingOf writingOf wiringOf endingOf advancingOf deliveringOnBoard servedOf turnOf
+pub bench : map (λ (l : Line). answers resetBoard (l .calls)) sheet ≡ map (λ (l : Line). l .answered) sheet
+unfolding sheet answers tab firstFrom allFrom modeOf remoteOf levelOf maskedOf withRemote withoutRemote writable written shown wordOk asserted makesEdge heldAfter eligible endedWord pinOk entriesOk levelsOk firstEligible wired pulsed ended taken lowShown lowWritten controllerFormed dataRead dataWritten controllerReading controllerWriting deliveringOf resetTimer configurationOf configuredOf comparedOf clearedOf meets firing pulsing driving flagsFit narrowFits timerFormed resetTimers timersFormed statusOf timerRegister registerOf timerWritten writtenOf countedOf matchesOf firedOf drivesOf pulsesOf routeOf timersReading timersWriting highAt wiresOf joined effect turned upTo tick firesIn ticks firings wellFormed readingOf writingOf wiringOf endingOf advancingOf deliveringOnBoard servedOf turnOf
 bench = refl
 
 pub reset-formed : wellFormed resetBoard ≡ true

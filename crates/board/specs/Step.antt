@@ -1,8 +1,7 @@
 -- What each call does to a board, and answers. Refusal 5 is tested first; an access then tests 1 for an unknown window, and the
 -- window's own tests: 2, 1 for the offset, 4. A wire change tests 3, then 4.
 use Prim.Native.Nat.{ℕ}
-use mathlib.Core.Bool.{Bool, cond}
-use mathlib.Core.List.{List}
+use mathlib.Core.Bool.{Bool, true, cond}
 use lib.Dec.{leb, ltb, eqb}
 use lib.ListN.{set}
 use Rattle.answers.specs.declared.Answer.the-variants as answer
@@ -16,7 +15,7 @@ use Rattle.board.specs.declared.Board.{Board}
 use Rattle.board.specs.declared.Call.{Call}
 use Rattle.board.specs.declared.Call.the-variants as call
 use Rattle.board.specs.declared.Turn.{Turn}
-use Rattle.board.specs.State.{board, withController, turn, refused}
+use Rattle.board.specs.State.{withController, turn, refused}
 use Rattle.board.specs.State.{resetBoard as reset}
 use Rattle.board.specs.Wires.{joined}
 use Rattle.board.specs.Tick.{ticks, firings}
@@ -64,7 +63,7 @@ advancingOf b n = turn (ticks n b) (answer.Fired (firings 0 n b) (firings 1 n b)
 unfoldable pub deliveringOnBoard : Board → Turn
 deliveringOnBoard b = byController b (deliveringOf (b .controller))
 
--- what a call does to a well-formed board
+-- what a call does to a board that it takes
 unfoldable pub servedOf : Board → Call → Turn
 servedOf b (call.Read window width offset) = readingOf b window width offset
 servedOf b (call.Write window width offset value) = writingOf b window width offset value
@@ -72,10 +71,21 @@ servedOf b (call.Wire pin level) = wiringOf b pin level
 servedOf b (call.End vector) = endingOf b vector
 servedOf b (call.Advance n) = advancingOf b n
 servedOf b call.Deliver = deliveringOnBoard b
+servedOf b call.Reset = turn reset answer.Done
+
+-- a reset takes any state; for every other call refusal 5 is tested first
+abbrev pub takes : Board → Call → Bool
+takes b (call.Read window width offset) = wellFormed b
+takes b (call.Write window width offset value) = wellFormed b
+takes b (call.Wire pin level) = wellFormed b
+takes b (call.End vector) = wellFormed b
+takes b (call.Advance n) = wellFormed b
+takes b call.Deliver = wellFormed b
+takes b call.Reset = true
 
 -- the promise of every call
 unfoldable pub turnOf : Board → Call → Turn
-turnOf b c = cond (wellFormed b) (servedOf b c) (refused b refusal.State)
+turnOf b c = cond (takes b c) (servedOf b c) (refused b refusal.State)
 
 -- for the rooms above
 abbrev pub formed : Board → Bool

@@ -1,104 +1,62 @@
 // Many ticks in constant time. During an advance statuses only rise, so after a timer's first firing a further one changes
-// no pin: at most three firings matter, in the order of their ticks, each at one pin. The loop goes from one such tick to the next.
+// no pin: at most three firings matter, in the order of their ticks, each at one pin.
 ghost use mathlib.Core.Path.{_≡_};
 ghost use Rattle.board.specs.declared.Call.the-variants as call;
 ghost use Rattle.board.specs.Step.{turnOf};
-ghost use Rattle.board.specs.Next.{soonerOf, nextOf, dueOf};
-ghost use Rattle.board.specs.At.{struckLevel, struckHeld, struck, advancingAt};
+ghost use Rattle.board.specs.At.{strikeOf, ordered, strikesOf, advancingAt};
 use crate::Board;
 use crate::Turn;
 use answers::Answer;
 use answers::Refusal;
-use controller::Controller;
 use entries::Entries;
-use entries::Low;
 use timers::Timers;
 
-// The sooner of f and best, unless f is past already.
-fn sooner(f: u32, at: u32, best: u32) -> u32
-    ensures { λ r. ⌜ r ≡ soonerOf f at best ⌝ }
+// Timer m's strike, where it first fires at the tick given, 0 for never.
+fn strike(s: Timers, m: usize, first: u32) -> u32
+    ensures { λ r. ⌜ r ≡ strikeOf s m first ⌝ }
 {
-    if f <= at {
-        return best;
+    if first == 0 {
+        return 0;
     }
-    if best <= f { best } else { f }
-}
-
-// The next tick after `at` at which some timer fires first, or n.
-fn next(f: [u32; 3], at: u32, n: u32) -> u32
-    ensures { λ r. ⌜ r ≡ nextOf f at n ⌝ }
-{
-    sooner(f[0], at, sooner(f[1], at, sooner(f[2], at, n)))
-}
-
-// Some timer fires first at the tick.
-fn due(f: [u32; 3], tick: u32) -> bool
-    ensures { λ r. ⌜ r ≡ dueOf f tick ⌝ }
-{
-    (f[0] == tick) | ((f[1] == tick) | (f[2] == tick))
-}
-
-// A pin's level after a firing that is a pulse, or raises the wire for good, or does neither.
-fn struck_level(pulse: bool, rise: bool, before: u8) -> u8
-    ensures { λ r. ⌜ r ≡ struckLevel pulse rise before ⌝ }
-{
-    if pulse {
-        return before;
+    let pin = (s.route(m) % (Entries::PULSE as usize)) as u32;
+    if s.pulses(m) {
+        return Entries::PULSE + pin;
     }
-    if rise { 1 } else { before }
+    if s.raises(m) { Entries::RISE + pin } else { 0 }
 }
 
-// And whether it holds an edge.
-fn struck_held(low: u32, pulse: bool, rise: bool, before: u8, held: u8) -> u8
-    ensures { λ r. ⌜ r ≡ struckHeld low pulse rise before held ⌝ }
+// Three strikes in the order of their ticks; in one tick, as they come.
+fn ordered(f: [u32; 3], a: u32, b: u32, c: u32) -> [u32; 3]
+    ensures { λ r. ⌜ r ≡ ordered f a b c ⌝ }
 {
-    let up = Low(low).held_after(before, 1, held);
-    if pulse {
-        return Low(low).held_after(1, before, up);
-    }
-    if rise { up } else { held }
-}
-
-// The entries after n ticks at which these timers fire first at the ticks given. The pins change in two arrays of their own: a
-// firing that took and gave the entries would copy them.
-fn struck(e: Entries, s: Timers, firsts: [u32; 3], n: u32) -> Entries
-    ensures { λ r. ⌜ r ≡ struck s firsts n e ⌝ }
-{
-    let low = e.low;
-    let destination = e.destination;
-    let mut level = e.level;
-    let mut held = e.held;
-    let mut at: u32 = 0;
-    while at < n {
-        let to = next(firsts, at, n);
-        if !due(firsts, to) {
-            return Entries {
-                low,
-                destination,
-                level,
-                held,
-            };
+    if f[1] < f[0] {
+        if f[2] < f[1] {
+            return [c, b, a];
         }
-        let mut m: usize = 0;
-        while m < Timers::COUNT {
-            let p = s.route(m);
-            if (firsts[m] == to) & (p < Entries::PINS) {
-                let pulse = s.pulses(m);
-                let rise = s.raises(m);
-                let before = level[p];
-                held[p] = struck_held(low[p], pulse, rise, before, held[p]);
-                level[p] = struck_level(pulse, rise, before);
-            }
-            m += 1;
+        if f[2] < f[0] {
+            return [b, c, a];
         }
-        at = to;
+        return [b, a, c];
     }
-    Entries {
-        low,
-        destination,
-        level,
-        held,
+    if f[2] < f[0] {
+        return [c, a, b];
     }
+    if f[2] < f[1] {
+        return [a, c, b];
+    }
+    [a, b, c]
+}
+
+// The timers' strikes, where these are the ticks of their first firings.
+fn strikes(s: Timers, f: [u32; 3]) -> [u32; 3]
+    ensures { λ r. ⌜ r ≡ strikesOf s f ⌝ }
+{
+    ordered(
+        f,
+        strike(s, 0, f[0]),
+        strike(s, 1, f[1]),
+        strike(s, 2, f[2]),
+    )
 }
 
 impl Board {
@@ -109,17 +67,14 @@ impl Board {
         let s = self.timers;
         let c = self.controller;
         let outside = self.outside;
-        let entries = c.entries;
         let r = s.ran(n);
         let timers = r.timers;
         let fired = r.fired;
-        let firsts = r.first;
-        let mut controller = c;
-        controller.entries = struck(entries, s, firsts, n);
+        let first = r.first;
         Turn {
             board: Board {
                 timers,
-                controller,
+                controller: c.struck(strikes(s, first)),
                 outside,
             },
             answer: Answer::Fired(fired[0], fired[1], fired[2]),

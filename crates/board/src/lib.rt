@@ -2,7 +2,6 @@
 // Everything that can be done to it is a Call, everything that can come back an Answer (crate answers).
 mod advance;
 mod step;
-mod tick;
 mod wires;
 
 use answers::Answer;
@@ -41,6 +40,7 @@ pub enum Call {
         ticks: u32,
     },
     Deliver,
+    Reset,
 }
 
 pub struct Turn {

@@ -1,4 +1,4 @@
-// Every call: the board is tested once, then the call is served. A call named -ing is what the call does once the board is known
+// Every call: the board is tested once, unless the call is a reset, then the call is served. A call named -ing is what the call does once the board is known
 // to be well formed: the monitor tests it where it lies.
 ghost use mathlib.Core.Path.{_≡_};
 ghost use Rattle.board.specs.declared.Call.the-variants as call;
@@ -205,6 +205,10 @@ impl Board {
             Call::End { vector } => self.end(vector),
             Call::Advance { ticks } => self.advance(ticks),
             Call::Deliver => self.deliver(),
+            Call::Reset => Turn {
+                board: Board::reset(),
+                answer: Answer::Done,
+            },
         }
     }
 }

@@ -5,7 +5,7 @@ ghost use lib.Dec.{eqb};
 ghost use Rattle.pins.specs.Pins.{every};
 ghost use Rattle.entries.specs.Table.{levelsOk};
 ghost use Rattle.board.specs.State.{resetBoard};
-ghost use Rattle.board.specs.Wires.{highAt, wiresOf, joined};
+ghost use Rattle.board.specs.Wires.{wiresOf, joined};
 ghost use Rattle.board.specs.Formed.{keptAt, wellFormed};
 use crate::Board;
 use controller::Controller;

@@ -1,37 +1,31 @@
 -- What the controller owes, with the paper's sentence above each.
-use mathlib.Core.Path.{_≡_, refl, sym, ap, subst, _∙_}
+use mathlib.Core.Path.{_≡_, refl, sym, ap, subst}
 use mathlib.Core.Bool.{Bool, true, false, not, cond, _||_}
 use mathlib.Core.List.{List, [], _∷_}
 use Prim.Native.Nat.{ℕ, _+_, _-_, _*_, _/_, _%_, _^_, _<_, _≤_}
 use native.Mathlib.Omega.{arith}
-use native.Mathlib.Decide.{ℕ-discrete}
 use mir.Val.{boolByte}
 use lib.Dec.{T, eqb, leb, ltb}
-use lib.ListN.{getD, set}
-use borrow.Author.Tests.{lt-ltb, le-ltb, lt-leb, ltb-true, ltb-false, leb-false, eqb-true, eq-eqb, ne-eqb}
+use lib.ListN.{set}
+use borrow.Author.Tests.{lt-ltb, le-ltb, lt-leb, ltb-true, ltb-false, ne-eqb}
 use Rattle.answers.specs.declared.Answer.{Answer}
 use Rattle.answers.specs.declared.Answer.the-variants as answer
 use Rattle.answers.specs.declared.Refusal.{Refusal}
 use Rattle.answers.specs.declared.Refusal.the-variants as refusal
-use Rattle.answers.specs.declared.Numbers.{Numbers}
 use Rattle.answers.specs.Numbers.{numberOf, bare, numbersOf}
-use Rattle.answers.specs.Order.{Test, test, firstNumber, Given}
-use Rattle.answers.proofs.Order.{only-if, if, Decided, done-decided, refused-decided, later-decided}
+use Rattle.answers.specs.Order.{Test, test, Given}
+use Rattle.answers.proofs.Order.{only-if, if, Decided, done-decided, refused-decided, then-decided}
 use Rattle.answers.proofs.Refused.{answerNumber, refused-bare, one-result}
-use Rattle.pins.proofs.Bools.{not-true-false}
 use Rattle.entries.specs.declared.Entries.{Entries}
-use Rattle.entries.specs.Word.{levelOf}
-use Rattle.entries.specs.Table.{levelsOk, firstEligible, eligibleAt, heldAt, wired, ended, given, taken, lowShown, lowWritten, highWritten}
-use Rattle.entries.proofs.Sized.{Sized}
-use Rattle.entries.proofs.Pulse.{wired-keeps}
-use Rattle.entries.proofs.Delivery.{Lowest, first-le-24, lowest-found, lowest-of, none-eligible, none-eligible-of, ended-held, taken-held, low-written-held-other, low-written-held, taken-held-own, low-written-held-dropped, held-edge, bit-12}
+use Rattle.entries.specs.Table.{firstEligible, eligibleAt, given, taken, lowShown}
+use Rattle.entries.proofs.Delivery.{Lowest, first-eligible-le, lowest-found, lowest-of, none-eligible, none-eligible-of, bit-12}
 use Rattle.controller.specs.declared.Controller.{Controller}
 use Rattle.controller.specs.declared.Turn.{Turn}
-use Rattle.controller.specs.State.{withId, withIndex, withEntries, wellFormed, turn, refused, tested}
-use Rattle.controller.specs.Window.{dataRead, dataWritten, entryWritten, readingOf, writingOf, readOf, writeOf}
-use Rattle.controller.specs.Steps.{rewired, wireOf, wiresOf, afterEnd, endOf, deliveringOf, deliverOf}
-use Rattle.controller.specs.Calls.{Call, read, write, wire, wires, end, deliver, turnOf, testsOf}
-use Rattle.controller.proofs.Formed.{Formed, formed, reading-same}
+use Rattle.controller.specs.State.{withIndex, withEntries, wellFormed, turn, refused, tested}
+use Rattle.controller.specs.Window.{dataRead, dataWritten, readingOf, writingOf, readOf, writeOf}
+use Rattle.controller.specs.Steps.{rewired, wireOf, afterEnd, endOf, deliveringOf, deliverOf}
+use Rattle.controller.specs.Calls.{Call, read, write, wire, end, deliver, turnOf, readTests, writeTests, testsOf}
+use Rattle.controller.proofs.Formed.{formed}
 
 -- ---- refusals
 
@@ -39,64 +33,49 @@ abbrev DecidedTurn : Controller → List Test → Turn → Type 0
 DecidedTurn c ts t = Decided Controller ts c (t .controller) (t .answer)
 
 module _ (c : Controller) where
-  refuses : (n : ℕ) (ts : List Test) (r : Refusal) → numberOf r ≡ n → DecidedTurn c (test n true ∷ ts) (refused c r)
-  refuses n ts r e = refused-decided c (test n true) ts r refl e
-
-  passes : (n : ℕ) (ts : List Test) (t : Turn) → DecidedTurn c ts t → DecidedTurn c (test n false ∷ ts) t
-  passes n ts t d = later-decided c (test n false) ts (t .controller) (t .answer) refl d
-
-  -- refusal 5 is tested first
-  tested-decided : (ts : List Test) (t : Turn) → DecidedTurn c ts t → DecidedTurn c (test 5 (not (wellFormed c)) ∷ ts) (tested c t)
-  unfolding numberOf
-  tested-decided ts t d = go (wellFormed c)
-    where
-      go : (f : Bool) → DecidedTurn c (test 5 (not f) ∷ ts) (cond f t (refused c refusal.State))
-      go true = passes 5 ts t d
-      go false = refuses 5 ts refusal.State refl
-
   -- a test with its refusal, and what comes after it
   then : (n : ℕ) (ts : List Test) (r : Refusal) (t : Turn) (f : Bool) → numberOf r ≡ n → DecidedTurn c ts t → DecidedTurn c (test n (not f) ∷ ts) (cond f t (refused c r))
-  then n ts r t true e d = passes n ts t d
-  then n ts r t false e d = refuses n ts r e
+  then n ts r t f e =
+      then-decided (λ (x : Turn). x .controller) (λ (x : Turn). x .answer) c n ts t (refused c r) f (refused-decided c (test n true) ts r refl e)
 
-  done : (n : Controller) (a : Answer) → answerNumber a ≡ 0 → DecidedTurn c [] (turn n a)
-  done n a e = done-decided c n a e
+  -- refusal 5 is tested first
+  formed-first : (ts : List Test) (t : Turn) → DecidedTurn c ts t → DecidedTurn c (test 5 (not (wellFormed c)) ∷ ts) (tested c t)
+  unfolding numberOf
+  formed-first ts t = then 5 ts refusal.State t (wellFormed c) refl
 
-  pub reading-decided : (w o : ℕ) → DecidedTurn c (test 2 (not (eqb w 4)) ∷ test 1 (not (eqb o 0 || eqb o 0x10)) ∷ []) (readingOf c w o)
+  pub reading-decided : (w o : ℕ) → DecidedTurn c (readTests w o) (readingOf c w o)
   unfolding readingOf numberOf numbersOf
   reading-decided w o = then 2 _ refusal.Width _ (eqb w 4) refl (go (eqb o 0) (eqb o 0x10))
     where
       go : (x y : Bool) → DecidedTurn c (test 1 (not (x || y)) ∷ []) (cond x (turn c (answer.Value (c .index))) (cond y (turn c (answer.Value (dataRead c))) (refused c refusal.Offset)))
-      go true y = passes 1 [] _ (done c (answer.Value (c .index)) refl)
-      go false true = passes 1 [] _ (done c (answer.Value (dataRead c)) refl)
-      go false false = refuses 1 [] refusal.Offset refl
+      go true y = then 1 [] refusal.Offset _ true refl (done-decided c c (answer.Value (c .index)) refl)
+      go false y = then 1 [] refusal.Offset _ y refl (done-decided c c (answer.Value (dataRead c)) refl)
 
-  pub writing-decided : (w o v : ℕ) → DecidedTurn c (test 2 (not (eqb w 4)) ∷ test 1 (not (eqb o 0 || eqb o 0x10)) ∷ test 4 (not (ltb v (2 ^ 32))) ∷ []) (writingOf c w o v)
+  pub writing-decided : (w o v : ℕ) → DecidedTurn c (writeTests w o v) (writingOf c w o v)
   unfolding writingOf numberOf numbersOf
   writing-decided w o v =
       then 2 _ refusal.Width _ (eqb w 4) refl
       (then 1 _ refusal.Offset _ (eqb o 0 || eqb o 0x10) refl
-      (then 4 [] refusal.Value _ (ltb v (2 ^ 32)) refl (done (cond (eqb o 0) (withIndex c (v % 256)) (dataWritten c v)) answer.Done refl)))
+      (then 4 [] refusal.Value _ (ltb v (2 ^ 32)) refl (done-decided c (cond (eqb o 0) (withIndex c (v % 256)) (dataWritten c v)) answer.Done refl)))
 
   pub delivering-decided : DecidedTurn c [] (deliveringOf c)
   unfolding deliveringOf numbersOf
   delivering-decided = go (ltb (firstEligible (c .entries)) 24)
     where
       go : (b : Bool) → DecidedTurn c [] (cond b (turn (withEntries c (taken (c .entries) (firstEligible (c .entries)))) (given (c .entries) (firstEligible (c .entries)))) (turn c answer.Nothing))
-      go true = done (withEntries c (taken (c .entries) (firstEligible (c .entries)))) (given (c .entries) (firstEligible (c .entries))) refl
-      go false = done c answer.Nothing refl
+      go true = done-decided c (withEntries c (taken (c .entries) (firstEligible (c .entries)))) (given (c .entries) (firstEligible (c .entries))) refl
+      go false = done-decided c c answer.Nothing refl
 
   decided : (k : Call) → DecidedTurn c (testsOf c k) (turnOf c k)
-  unfolding turnOf testsOf readOf writeOf wireOf wiresOf endOf deliverOf numberOf numbersOf
-  decided (read w o) = tested-decided _ (readingOf c w o) (reading-decided w o)
-  decided (write w o v) = tested-decided _ (writingOf c w o v) (writing-decided w o v)
+  unfolding turnOf testsOf readOf writeOf wireOf endOf deliverOf numberOf numbersOf
+  decided (read w o) = formed-first _ (readingOf c w o) (reading-decided w o)
+  decided (write w o v) = formed-first _ (writingOf c w o v) (writing-decided w o v)
   decided (wire p l) =
-      tested-decided _ _
+      formed-first _ _
       (then 3 _ refusal.Pin _ (ltb p 24) refl
-      (then 4 [] refusal.Level _ (leb l 1) refl (done (rewired c (set (c .entries .level) p l)) answer.Done refl)))
-  decided (wires l) = tested-decided _ _ (then 4 [] refusal.Level _ (levelsOk l) refl (done (rewired c l) answer.Done refl))
-  decided (end v) = tested-decided [] _ (done (afterEnd c v) answer.Done refl)
-  decided deliver = tested-decided [] (deliveringOf c) delivering-decided
+      (then 4 [] refusal.Level _ (leb l 1) refl (done-decided c (rewired c (set (c .entries .level) p l)) answer.Done refl)))
+  decided (end v) = formed-first [] _ (done-decided c (afterEnd c v) answer.Done refl)
+  decided deliver = formed-first [] (deliveringOf c) delivering-decided
 
 module _ (c : Controller) (k : Call) where
   -- "Given exactly when": a number is given if and only if its test holds and none before it does
@@ -197,123 +176,11 @@ module _ (c : Controller) where
           cond w (cond b (turn (withEntries c (taken e (firstEligible e))) (given e (firstEligible e))) (turn c answer.Nothing)) (refused c refusal.State) .answer ≡ answer.Nothing →
           (wellFormed c ≡ true) × ((p : ℕ) → p < 24 → eligibleAt e p ≡ false)
       go true x true y q = not-nothing e (firstEligible e) (sym q)
-      go true x false y q = (x, none-eligible e (ends (firstEligible e) (first-le-24 e) (ltb-false (firstEligible e) 24 y)))
+      go true x false y q = (x, none-eligible e (ends (firstEligible e) (first-eligible-le e) (ltb-false (firstEligible e) 24 y)))
         where
           ends : (i : ℕ) → i ≤ 24 → 24 ≤ i → i ≡ 24
           ends i a b = omega arith
       go false x b y q = refused-not-nothing q
-
--- ---- "If it leaves the pin level, a held edge is dropped; otherwise the held edge stays, masked or not"; "An edge pin loses its held edge"
-
--- what loses pin p's held edge: its delivery, or a low-word write that leaves the pin level (a refused write loses nothing)
-pub data Loses (c : Controller) (p : ℕ) : Call → Type 0 where
-  delivered : deliverOf c .answer ≡ given (c .entries) p → Loses c p deliver
-  made-level : (w o v : ℕ) → w ≡ 4 → o ≡ 0x10 → c .index ≡ 0x10 + 2 * p → v < 2 ^ 32 → levelOf v ≡ true → Loses c p (write w o v)
-
-index-is : (i p : ℕ) → 0x10 ≤ i → (i - 0x10) % 2 ≡ 0 → p ≡ (i - 0x10) / 2 → i ≡ 0x10 + 2 * p
-index-is i p a b e = omega arith
-
-module _ (c : Controller) (z : Sized (c .entries)) (p : ℕ) (l : p < 24) (h : heldAt (c .entries) p ≡ 1) where
-  abbrev n : ℕ
-  n = (c .index - 0x10) / 2
-
-  low-kept : (v : ℕ) → (p ≡ n → levelOf v ≡ false) → heldAt (lowWritten (c .entries) n v) p ≡ 1
-  low-kept v f = go (ℕ-discrete p n)
-    where
-      go : Dec (p ≡ n) → heldAt (lowWritten (c .entries) n v) p ≡ 1
-      go (yes q) = subst (λ (m : ℕ). heldAt (lowWritten (c .entries) m v) p ≡ 1) q (low-written-held (c .entries) z p v l (f q) ∙ h)
-      go (no q) = low-written-held-other (c .entries) n p q v ∙ h
-
-  data-kept : (v : ℕ) → (c .index ≡ 0x10 + 2 * p → levelOf v ≡ true → ⊥) → heldAt (dataWritten c v .entries) p ≡ 1
-  unfolding dataWritten
-  data-kept v f = go (eqb (c .index) 0) (ltb (c .index) 0x10) refl (leb 0x40 (c .index)) (eqb ((c .index - 0x10) % 2) 0) refl
-    where
-      go :
-          (a b : Bool) → ltb (c .index) 0x10 ≡ b → (d m : Bool) → eqb ((c .index - 0x10) % 2) 0 ≡ m →
-          heldAt (cond a (withId c (v / 2 ^ 24 % 16)) (cond b c (cond d c (withEntries c (cond m (lowWritten (c .entries) n v) (highWritten (c .entries) n v))))) .entries) p ≡ 1
-      go true b x d m y = h
-      go false true x d m y = h
-      go false false x true m y = h
-      go false false x false true y =
-          low-kept v
-          (λ q. not-true-false (levelOf v)
-          (f (index-is (c .index) p (ltb-false (c .index) 0x10 x) (eqb-true ((c .index - 0x10) % 2) 0 y) q)))
-      go false false x false false y = h
-
-  pub held-kept : (k : Call) → (Loses c p k → ⊥) → heldAt (turnOf c k .controller .entries) p ≡ 1
-  unfolding turnOf readOf writeOf writingOf wireOf wiresOf endOf deliverOf deliveringOf
-  held-kept (read w o) f = go (wellFormed c)
-    where
-      go : (b : Bool) → heldAt (cond b (readingOf c w o) (refused c refusal.State) .controller .entries) p ≡ 1
-      go true = ap (λ (d : Controller). heldAt (d .entries) p) (reading-same c w o) ∙ h
-      go false = h
-  held-kept (write w o v) f = go (wellFormed c) (eqb w 4) refl (eqb o 0) (eqb o 0x10) refl (ltb v (2 ^ 32)) refl
-    where
-      go :
-          (b a : Bool) → eqb w 4 ≡ a → (x y : Bool) → eqb o 0x10 ≡ y → (s : Bool) → ltb v (2 ^ 32) ≡ s →
-          heldAt (cond b (cond a (cond (x || y) (cond s (turn (cond x (withIndex c (v % 256)) (dataWritten c v)) answer.Done) (refused c refusal.Value)) (refused c refusal.Offset)) (refused c refusal.Width)) (refused c refusal.State) .controller .entries) p ≡ 1
-      go true true q true y r true u = h
-      go true true q true y r false u = h
-      go true true q false true r true u = data-kept v (λ i t. f (made-level w o v (eqb-true w 4 q) (eqb-true o 0x10 r) i (ltb-true v (2 ^ 32) u) t))
-      go true true q false true r false u = h
-      go true true q false false r s u = h
-      go true false q x y r s u = h
-      go false a q x y r s u = h
-  held-kept (wire i x) f = go (wellFormed c) (ltb i 24) (leb x 1)
-    where
-      go :
-          (b a d : Bool) →
-          heldAt (cond b (cond a (cond d (turn (rewired c (set (c .entries .level) i x)) answer.Done) (refused c refusal.Level)) (refused c refusal.Pin)) (refused c refusal.State) .controller .entries) p ≡ 1
-      go true true true = wired-keeps (c .entries) (set (c .entries .level) i x) p l h
-      go true true false = h
-      go true false d = h
-      go false a d = h
-  held-kept (wires x) f = go (wellFormed c) (levelsOk x)
-    where
-      go : (b a : Bool) → heldAt (cond b (cond a (turn (rewired c x) answer.Done) (refused c refusal.Level)) (refused c refusal.State) .controller .entries) p ≡ 1
-      go true true = wired-keeps (c .entries) x p l h
-      go true false = h
-      go false a = h
-  held-kept (end v) f = go (wellFormed c)
-    where
-      go : (b : Bool) → heldAt (cond b (turn (afterEnd c v) answer.Done) (refused c refusal.State) .controller .entries) p ≡ 1
-      go true = ap (λ (x : List ℕ). getD x p 0) (ended-held (c .entries) v) ∙ h
-      go false = h
-  held-kept deliver f = go (wellFormed c) refl (ltb (firstEligible (c .entries)) 24) refl
-    where
-      answers : (b a : Bool) → Turn
-      answers b a = cond b (cond a (turn (withEntries c (taken (c .entries) (firstEligible (c .entries)))) (given (c .entries) (firstEligible (c .entries)))) (turn c answer.Nothing)) (refused c refusal.State)
-
-      here : wellFormed c ≡ true → p ≡ firstEligible (c .entries) → Loses c p deliver
-      here x q = delivered (ap (λ (t : Turn). t .answer) (delivers-if c p x l (lowest-found (c .entries) p l (sym q))))
-
-      go : (b : Bool) → wellFormed c ≡ b → (a : Bool) → ltb (firstEligible (c .entries)) 24 ≡ a → heldAt (answers b a .controller .entries) p ≡ 1
-      go true x true y = other (ℕ-discrete p (firstEligible (c .entries)))
-        where
-          other : Dec (p ≡ firstEligible (c .entries)) → heldAt (taken (c .entries) (firstEligible (c .entries))) p ≡ 1
-          other (yes q) = absurd (f (here x q))
-          other (no q) = taken-held (c .entries) (firstEligible (c .entries)) p q ∙ h
-      go true x false y = h
-      go false x a y = h
-
-  low-index : c .index ≡ 0x10 + 2 * p → (v : ℕ) → dataWritten c v ≡ withEntries c (lowWritten (c .entries) p v)
-  unfolding dataWritten
-  low-index at v =
-      let half : (0x10 + 2 * p - 0x10) / 2 ≡ p = omega arith in
-      let even : (0x10 + 2 * p - 0x10) % 2 ≡ 0 = omega arith in
-      rw (at, ne-eqb (0x10 + 2 * p) 0 (omega arith), le-ltb (0x10 + 2 * p) 0x10 (omega arith), lt-leb 0x40 (0x10 + 2 * p) (omega arith), even, half)
-
-  module _ (f : wellFormed c ≡ true) where
-    -- … and each of the two loses it
-    pub held-lost : (k : Call) → Loses c p k → heldAt (turnOf c k .controller .entries) p ≡ 0
-    unfolding turnOf writeOf writingOf
-    held-lost _ (delivered e) =
-        let r = delivers-only-if c p e in
-        ap (λ (t : Turn). heldAt (t .controller .entries) p) (delivers-if c p f l (r .2))
-        ∙ taken-held-own (c .entries) z p l (held-edge (c .entries) (formed c f .entries) p l h)
-    held-lost _ (made-level w o v x y i u t) =
-        rw (f, x, y, lt-ltb v (2 ^ 32) u, low-index i v)
-        (low-written-held-dropped (c .entries) z p v l t)
 
 -- ---- "Bit 12 reads 1 exactly for an eligible pin"
 

@@ -19,10 +19,10 @@ use Rattle.entries.proofs.Pulse.{set-ok}
 use Rattle.entries.proofs.Delivery.{low-written-level, taken-level}
 use Rattle.controller.specs.declared.Controller.{Controller}
 use Rattle.controller.specs.declared.Turn.{Turn}
-use Rattle.controller.specs.State.{resetController, withId, withIndex, withEntries, wellFormed, turn, refused, tested}
+use Rattle.controller.specs.State.{resetController, withId, withIndex, withEntries, wellFormed, turn, refused}
 use Rattle.controller.specs.Window.{dataRead, dataWritten, readingOf, writingOf, readOf, writeOf, entryWritten}
-use Rattle.controller.specs.Steps.{rewired, wireOf, wiresOf, afterEnd, endOf, deliveringOf, deliverOf}
-use Rattle.controller.specs.Calls.{Call, read, write, wire, wires, end, deliver, turnOf}
+use Rattle.controller.specs.Steps.{rewired, wireOf, afterEnd, endOf, deliveringOf, deliverOf}
+use Rattle.controller.specs.Calls.{Call, read, write, wire, end, deliver, turnOf}
 
 pub record Formed (c : Controller) : Type 0 where
   pub id : leb (c .id) 15 ≡ true
@@ -132,22 +132,13 @@ module _ (c : Controller) (e : wellFormed c ≡ true) (z : Sized (c .entries)) w
       go true false d n = record { formed = e; sized = z }
       go false b d n = record { formed = e; sized = z }
 
--- levels that are lent to a call are 24, as those of the code's array are
-abbrev pub Lent : Call → Type 0
-Lent (read w o) = Unit {0}
-Lent (write w o v) = Unit {0}
-Lent (wire p l) = Unit {0}
-Lent (wires l) = length l ≡ 24
-Lent (end v) = Unit {0}
-Lent deliver = Unit {0}
-
 -- every call turns a well-formed state into one
 module _ (c : Controller) (e : wellFormed c ≡ true) (z : Sized (c .entries)) where
-  pub keeps : (k : Call) → Lent k → Keeps (turnOf c k)
-  unfolding turnOf readOf writeOf wireOf wiresOf endOf deliverOf
-  keeps (read w o) l = rw e (record { formed = ap wellFormed (reading-same c w o) ∙ e; sized = subst (λ (d : Controller). Sized (d .entries)) (sym (reading-same c w o)) z })
-  keeps (write w o v) l = rw e (writing-keeps c e z w o v)
-  keeps (wire p x) l = rw e (go (ltb p 24) (leb x 1) refl)
+  pub keeps : (k : Call) → Keeps (turnOf c k)
+  unfolding turnOf readOf writeOf wireOf endOf deliverOf
+  keeps (read w o) = rw e (record { formed = ap wellFormed (reading-same c w o) ∙ e; sized = subst (λ (d : Controller). Sized (d .entries)) (sym (reading-same c w o)) z })
+  keeps (write w o v) = rw e (writing-keeps c e z w o v)
+  keeps (wire p x) = rw e (go (ltb p 24) (leb x 1) refl)
     where
       go :
           (a b : Bool) → leb x 1 ≡ b →
@@ -157,13 +148,8 @@ module _ (c : Controller) (e : wellFormed c ≡ true) (z : Sized (c .entries)) w
           (length-set (c .entries .level) p x ∙ z .level)
       go true false t = record { formed = e; sized = z }
       go false b t = record { formed = e; sized = z }
-  keeps (wires x) l = rw e (go (levelsOk x) refl)
-    where
-      go : (b : Bool) → levelsOk x ≡ b → Keeps (cond b (turn (rewired c x) answer.Done) (refused c refusal.Level))
-      go true t = rewired-keeps c e z x t l
-      go false t = record { formed = e; sized = z }
-  keeps (end v) l = rw e (ended-keeps c e z v)
-  keeps deliver l = rw e (delivering-keeps c e z)
+  keeps (end v) = rw e (ended-keeps c e z v)
+  keeps deliver = rw e (delivering-keeps c e z)
 
 -- ---- no call but a wire change moves a pin's level: what a board above needs
 

@@ -1,10 +1,11 @@
 -- The bench sheet's lines of the controller, B1 to B6 and B12, from reset, as one table with one statement.
-use Prim.Native.Nat.{ℕ, _+_, _*_, _^_}
+use Prim.Native.Nat.{ℕ, _+_, _*_}
 use mathlib.Core.Path.{_≡_, refl}
 use mathlib.Core.List.{List, [], _∷_, _++_, map}
-use lib.ListN.{replicate}
-use Rattle.answers.specs.declared.Numbers.{Numbers}
-use Rattle.answers.specs.Numbers.{numberOf, bare, withValue, withDelivery, numbersOf}
+use Rattle.answers.specs.declared.Answer.{Answer}
+use Rattle.answers.specs.declared.Refusal.the-variants as refusal
+use Rattle.answers.specs.Numbers.{numberOf}
+use Rattle.answers.specs.Sheet.{ok, value, pin, none, refused}
 use Rattle.pins.specs.Pins.{tab, firstFrom, allFrom}
 use Rattle.entries.specs.Word.{modeOf, remoteOf, levelOf, maskedOf, withRemote, withoutRemote, writable, written, shown, wordOk}
 use Rattle.entries.specs.Pin.{asserted, makesEdge, heldAfter, eligible, endedWord, pinOk}
@@ -12,19 +13,19 @@ use Rattle.entries.specs.Table.{entriesOk, levelsOk, firstEligible, wired, ende
 use Rattle.controller.specs.declared.Controller.{Controller}
 use Rattle.controller.specs.State.{resetController, wellFormed}
 use Rattle.controller.specs.Window.{dataRead, dataWritten, readingOf, writingOf, readOf, writeOf}
-use Rattle.controller.specs.Steps.{wireOf, wiresOf, endOf, deliveringOf, deliverOf}
+use Rattle.controller.specs.Steps.{wireOf, endOf, deliveringOf, deliverOf}
 use Rattle.controller.specs.Calls.{Call, read, write, wire, end, deliver, turnOf}
 
 -- what the calls answer, one after another
-unfoldable pub run : Controller → List Call → List Numbers
+unfoldable pub run : Controller → List Call → List Answer
 run c [] = []
-run c (k ∷ ks) = numbersOf (turnOf c k .answer) ∷ run (turnOf c k .controller) ks
+run c (k ∷ ks) = turnOf c k .answer ∷ run (turnOf c k .controller) ks
 
 pub record Line : Type 0 where
   pub calls : List Call
-  pub answers : List Numbers
+  pub answers : List Answer
 
-abbrev line : List Call → List Numbers → Line
+abbrev line : List Call → List Answer → Line
 line c a = record { calls = c; answers = a }
 
 abbrev select : ℕ → Call
@@ -40,19 +41,8 @@ get = read 4 0x10
 abbrev entry : ℕ → ℕ → List Call
 entry n v = select (0x10 + 2 * n) ∷ put v ∷ []
 
-abbrev ok : Numbers
-ok = bare 0
-
-abbrev value : ℕ → Numbers
-value v = withValue (bare 0) v
-
-abbrev pin : ℕ → ℕ → Numbers
-pin p v = withDelivery (bare 0) p v 0 0
-
-abbrev none : Numbers
-none = bare 0
-
 pub sheet : List Line
+unfolding numberOf
 sheet =
     -- B1 index 1 reads 0x00170011
     line (select 1 ∷ get ∷ []) (ok ∷ value 0x00170011 ∷ [])
@@ -72,9 +62,9 @@ sheet =
     (entry 5 0x8035 ++ entry 2 0x8032 ++ wire 5 1 ∷ wire 2 1 ∷ deliver ∷ deliver ∷ deliver ∷ [])
     (ok ∷ ok ∷ ok ∷ ok ∷ ok ∷ ok ∷ pin 2 0x32 ∷ pin 5 0x35 ∷ none ∷ [])
     -- B12 controller read, width 8 at 0x04: 2; width 4: 1
-    ∷ line (read 8 4 ∷ read 4 4 ∷ []) (bare 2 ∷ bare 1 ∷ [])
+    ∷ line (read 8 4 ∷ read 4 4 ∷ []) (refused 2 refusal.Width refl ∷ refused 1 refusal.Offset refl ∷ [])
     ∷ []
 
 pub bench : map (λ (l : Line). run resetController (l .calls)) sheet ≡ map (λ (l : Line). l .answers) sheet
-unfolding run sheet turnOf numberOf numbersOf tab firstFrom allFrom modeOf remoteOf levelOf maskedOf withRemote withoutRemote writable written shown wordOk asserted makesEdge heldAfter eligible endedWord pinOk entriesOk levelsOk firstEligible wired ended taken lowShown lowWritten wellFormed dataRead dataWritten readingOf writingOf readOf writeOf wireOf wiresOf endOf deliveringOf deliverOf
+unfolding run sheet turnOf tab firstFrom allFrom modeOf remoteOf levelOf maskedOf withRemote withoutRemote writable written shown wordOk asserted makesEdge heldAfter eligible endedWord pinOk entriesOk levelsOk firstEligible wired ended taken lowShown lowWritten wellFormed dataRead dataWritten readingOf writingOf readOf writeOf wireOf endOf deliveringOf deliverOf
 bench = refl

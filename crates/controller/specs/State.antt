@@ -1,7 +1,6 @@
 -- The 82093AA's state: id, index, entries (document 01, "Controller registers"), and what a call gives.
 use Prim.Native.Nat.{ℕ}
 use mathlib.Core.Bool.{Bool, cond, _&&_}
-use mathlib.Core.List.{List}
 use lib.Dec.{leb}
 use Rattle.answers.specs.declared.Answer.{Answer}
 use Rattle.answers.specs.declared.Answer.the-variants as answer

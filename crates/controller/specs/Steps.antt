@@ -1,12 +1,12 @@
 -- Wires, end of interrupt and delivery (document 01, "Controller registers").
 use Prim.Native.Nat.{ℕ}
-use mathlib.Core.Bool.{Bool, cond}
+use mathlib.Core.Bool.{cond}
 use mathlib.Core.List.{List}
 use lib.Dec.{leb, ltb}
 use lib.ListN.{set}
 use Rattle.answers.specs.declared.Answer.the-variants as answer
 use Rattle.answers.specs.declared.Refusal.the-variants as refusal
-use Rattle.entries.specs.Table.{levelsOk, firstEligible, wired, wiredAt, ended, given, taken}
+use Rattle.entries.specs.Table.{firstEligible, wired, ended, given, taken}
 use Rattle.controller.specs.declared.Controller.{Controller}
 use Rattle.controller.specs.declared.Turn.{Turn}
 use Rattle.controller.specs.State.{withEntries, turn, refused, tested}
@@ -14,13 +14,6 @@ use Rattle.controller.specs.State.{withEntries, turn, refused, tested}
 -- all wires at once: one step, with an edge at every unmasked edge pin that went from not asserted to asserted
 abbrev pub rewired : Controller → List ℕ → Controller
 rewired c l = withEntries c (wired (c .entries) l)
-
--- the same where only pin p's wire changes: only inner functions cite it
-abbrev pub rewiredAt : Controller → ℕ → ℕ → Controller
-rewiredAt c p x = withEntries c (wiredAt (c .entries) p x)
-
-unfoldable pub wiresOf : Controller → List ℕ → Turn
-wiresOf c l = tested c (cond (levelsOk l) (turn (rewired c l) answer.Done) (refused c refusal.Level))
 
 -- a wire change tests 3, then 4
 unfoldable pub wireOf : Controller → ℕ → ℕ → Turn

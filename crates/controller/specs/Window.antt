@@ -1,6 +1,6 @@
 -- The window (document 01, "Controller registers"): width 4 only; offset 0x00 is the index, 0x10 the data window, any other: 1.
 use Prim.Native.Nat.{ℕ, _-_, _*_, _/_, _%_, _^_}
-use mathlib.Core.Bool.{Bool, cond, _||_}
+use mathlib.Core.Bool.{cond, _||_}
 use lib.Dec.{leb, ltb, eqb}
 use Rattle.answers.specs.declared.Answer.the-variants as answer
 use Rattle.answers.specs.declared.Refusal.the-variants as refusal

@@ -7,6 +7,7 @@ use answers::Refusal;
 use entries::Entries;
 
 impl Controller {
+    // well formed: id at most 15, index at most 255
     pub const LAST_ID: u32 = 15;
 
     pub const LAST_INDEX: u32 = 255;

@@ -1,6 +1,7 @@
 // Wires, end of interrupt, delivery.
 ghost use mathlib.Core.Path.{_≡_};
-ghost use Rattle.controller.specs.Steps.{rewired, rewiredAt, wiresOf, wireOf, afterEnd, endOf, deliveringOf, deliverOf};
+ghost use Rattle.controller.specs.Steps.{rewired, wireOf, afterEnd, endOf, deliveringOf, deliverOf};
+ghost use Rattle.controller.specs.Inner.{rewiredAt, struckOf};
 use crate::Controller;
 use crate::Turn;
 use answers::Answer;
@@ -8,10 +9,12 @@ use answers::Refusal;
 use entries::Entries;
 
 impl Controller {
+    // a pin above 23 is refused, and a wire level above 1
     pub const PINS: u64 = 24;
 
     pub const LAST_LEVEL: u64 = 1;
 
+    // All wires at once.
     pub fn rewired(self, levels: [u8; 24]) -> Controller
         ensures { λ r. ⌜ r ≡ rewired self levels ⌝ }
     {
@@ -31,20 +34,14 @@ impl Controller {
         next
     }
 
-    // All wires at once.
-    pub fn wires(self, levels: [u8; 24]) -> Turn
-        ensures { λ r. ⌜ r ≡ wiresOf self levels ⌝ }
+    // Up to three pins are struck, one after the other.
+    pub fn struck(self, strikes: [u32; 3]) -> Controller
+        ensures { λ r. ⌜ r ≡ struckOf self strikes ⌝ }
     {
-        if !self.well_formed() {
-            return self.refused(Refusal::State);
-        }
-        if !Entries::levels_ok(levels) {
-            return self.refused(Refusal::Level);
-        }
-        Turn {
-            controller: self.rewired(levels),
-            answer: Answer::Done,
-        }
+        let entries = self.entries;
+        let mut next = self;
+        next.entries = entries.struck(strikes);
+        next
     }
 
     pub fn wire(self, pin: u64, level: u64) -> Turn

@@ -6,34 +6,36 @@ use answers::Answer;
 use answers::Refusal;
 
 impl Controller {
-    pub const WIDTH: u64 = 4;
+    // ---- the window
 
-    // The index: bits 7:0 kept, the rest read 0.
+    // every access is so many bytes wide; alignment isn't tested
+    pub const WIDTH: u64 = 4;
+    // a value of so many bytes is below it
+    pub const VALUE_END: u64 = 4294967296;
+    // the index, writable: bits 7:0 kept, the rest read 0
     pub const INDEX: u64 = 0x00;
 
     pub const INDEX_KEPT: u64 = 0xff;
-
-    // The data window.
+    // the data window: the register that the index names
     pub const DATA: u64 = 0x10;
 
-    // 0x00: id, bits 27:24, writable.
+    // ---- the registers, by index
+
+    // id, bits 27:24, writable
     pub const ID: u32 = 0x00;
 
     pub const ID_AT: u32 = 24;
 
     pub const ID_KEPT: u32 = 0xf;
-
-    // 0x01: read only.
+    // read only
     pub const VERSION: u32 = 0x01;
 
     pub const VERSION_VALUE: u32 = 0x0017_0011;
-
-    // 0x02: bits 27:24 equal the id, read only.
+    // bits 27:24 equal the id, read only
     pub const ARBITRATION: u32 = 0x02;
-
-    // 0x10+2n: entry n, low word; 0x11+2n: its high word.
+    // 0x10+2n entry n, low word; 0x11+2n its high word
     pub const ENTRIES: u32 = 0x10;
-
+    // the first index after the last entry
     pub const ENTRIES_END: u32 = 0x40;
 
     fn id_shown(self) -> u32
@@ -137,7 +139,7 @@ impl Controller {
         if (offset != Controller::INDEX) & (offset != Controller::DATA) {
             return self.refused(Refusal::Offset);
         }
-        if 4294967296 <= value {
+        if Controller::VALUE_END <= value {
             return self.refused(Refusal::Value);
         }
         if offset == Controller::INDEX {

@@ -11,7 +11,8 @@ use Rattle.pins.proofs.Every.{every-and}
 use Rattle.entries.specs.declared.Entries.{Entries}
 use Rattle.entries.specs.Word.{levelOf, wordOk}
 use Rattle.entries.specs.Pin.{pinOk}
-use Rattle.entries.specs.Table.{lowAt, levelAt, heldAt, wordsOk, edgesOk, entriesOk, levelsOk}
+use Rattle.entries.specs.Table.{lowAt, levelAt, heldAt, entriesOk, levelsOk}
+use Rattle.entries.specs.Inner.{wordsOk, edgesOk}
 
 -- the levels of a list, one by one
 pub levels-each : (l : List ℕ) → levelsOk l ≡ every (λ i. leb (getD l i 0) 1)

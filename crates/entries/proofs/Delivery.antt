@@ -1,6 +1,6 @@
 -- What a delivery, a read and each step do to eligibility and to held edges.
 use mathlib.Core.Path.{_≡_, refl, sym, ap, _∙_}
-use mathlib.Core.Bool.{Bool, true, false, not, cond, _&&_, _||_}
+use mathlib.Core.Bool.{Bool, true, false, not, cond, _&&_}
 use mathlib.Core.List.{List}
 use Prim.Native.Nat.{ℕ, _+_, _-_, _*_, _/_, _%_, _<_, _≤_}
 use native.Mathlib.Omega.{arith}
@@ -11,10 +11,11 @@ use lib.ListN.{set}
 use lib.Seq.{getD-set-same, getD-set-other, set-getD}
 use borrow.Author.Tests.{eq-eqb, ne-eqb}
 use Rattle.pins.proofs.Bools.{clash, and-false, and-true}
-use Rattle.pins.proofs.First.{First, first-le, first-found, first-of, first-none, first-none-of}
+use Rattle.pins.proofs.First.{First, first-le-24, first-found, first-of, first-none, first-none-of}
 use Rattle.entries.specs.declared.Entries.{Entries}
 use Rattle.entries.specs.Word.{levelOf, remoteOf, maskedOf, modeOf, withRemote, written, shown}
-use Rattle.entries.specs.Pin.{asserted, eligible, takenWord, heldTaken}
+use Rattle.entries.specs.Pin.{asserted, eligible}
+use Rattle.entries.specs.Inner.{takenWord, heldTaken}
 use Rattle.entries.specs.Table.{lowAt, levelAt, heldAt, withLow, withHeld, eligibleAt, entriesOk, firstEligible, ended, taken, lowShown, lowWritten}
 use Rattle.entries.proofs.Sized.{Sized}
 use Rattle.entries.proofs.Formed.{level-with, level-written, pins-good}
@@ -25,9 +26,9 @@ abbrev pub Lowest : Entries → ℕ → Type 0
 Lowest e i = First (eligibleAt e) i
 
 module _ (e : Entries) where
-  pub first-le-24 : firstEligible e ≤ 24
+  pub first-eligible-le : firstEligible e ≤ 24
   unfolding firstEligible
-  first-le-24 = first-le (eligibleAt e)
+  first-eligible-le = first-le-24 (eligibleAt e)
 
   pub lowest-found : (i : ℕ) → i < 24 → firstEligible e ≡ i → Lowest e i
   unfolding firstEligible

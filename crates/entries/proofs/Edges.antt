@@ -1,5 +1,5 @@
 -- A change of the wires, from bytes: what the code that works on all pins at once cites.
-use mathlib.Core.Path.{_≡_, refl, ap, ap₂, _∙_}
+use mathlib.Core.Path.{_≡_, refl, ap₂, _∙_}
 use mathlib.Core.Bool.{Bool, true, false, not, cond, _&&_}
 use mathlib.Core.List.{List}
 use Prim.Native.Nat.{ℕ, _<_}
@@ -7,26 +7,25 @@ use lib.Dec.{eqb}
 use lib.ListN.{getD}
 use mir.Val.{boolByte}
 use Rattle.pins.specs.Pins.{pins}
+use Rattle.pins.proofs.Bools.{eqb-byte}
 use Rattle.pins.proofs.Fill.{getD-tab}
 use Rattle.pins.proofs.Store.{pins-cong}
 use Rattle.entries.specs.declared.Entries.{Entries}
 use Rattle.entries.specs.Word.{activeLowOf, levelOf, maskedOf}
-use Rattle.entries.specs.Pin.{asserted, takesEdges, makesEdge, heldAfter, heldBy}
-use Rattle.entries.specs.Table.{lowAt, levelAt, heldAt, edgePins, activeLows}
-
-is-one : (b : Bool) → eqb (boolByte b) 1 ≡ b
-is-one true = refl
-is-one false = refl
+use Rattle.entries.specs.Pin.{asserted, makesEdge, heldAfter}
+use Rattle.entries.specs.Inner.{takesEdges, heldBy}
+use Rattle.entries.specs.Table.{lowAt, levelAt, heldAt, heldOn}
+use Rattle.entries.specs.Inner.{edgePins, activeLows}
 
 twice : (b : Bool) → b ≡ not (not b)
 twice true = refl
 twice false = refl
 
-held-same : (w before after held : ℕ) → heldBy (boolByte (takesEdges w)) (activeLowOf w) before after held ≡ heldAfter w before after held
+held-by-after : (w before after held : ℕ) → heldBy (boolByte (takesEdges w)) (activeLowOf w) before after held ≡ heldAfter w before after held
 unfolding heldBy heldAfter makesEdge asserted takesEdges
-held-same w before after held =
+held-by-after w before after held =
     ap₂ (λ (x y : Bool). cond (x && y && not (eqb after (activeLowOf w))) 1 held)
-    (is-one (not (maskedOf w) && not (levelOf w)))
+    (eqb-byte (not (maskedOf w) && not (levelOf w)))
     (twice (eqb before (activeLowOf w)))
 
 module _ (e : Entries) (l : List ℕ) where
@@ -40,10 +39,10 @@ module _ (e : Entries) (l : List ℕ) where
 
   pub wired-by :
       pins (λ i. heldBy (getD (edgePins (e .low)) i 0) (getD (activeLows (e .low)) i 0) (levelAt e i) (getD l i 0) (heldAt e i))
-      ≡ pins (λ i. heldAfter (lowAt e i) (levelAt e i) (getD l i 0) (heldAt e i))
+      ≡ pins (heldOn e l)
   wired-by =
       pins-cong (λ i. heldBy (getD (edgePins (e .low)) i 0) (getD (activeLows (e .low)) i 0) (levelAt e i) (getD l i 0) (heldAt e i))
-      (λ i. heldAfter (lowAt e i) (levelAt e i) (getD l i 0) (heldAt e i)) 0
+      (heldOn e l) 0
       (λ i h.
       ap₂ (λ (x y : ℕ). heldBy x y (levelAt e i) (getD l i 0) (heldAt e i)) (edge-at i h) (low-at i h)
-      ∙ held-same (lowAt e i) (levelAt e i) (getD l i 0) (heldAt e i))
+      ∙ held-by-after (lowAt e i) (levelAt e i) (getD l i 0) (heldAt e i))

@@ -18,8 +18,8 @@ second : (n : ℕ) → n % 8 / 2 % 2 ≡ n / 2 % 2
 second n = omega arith
 
 -- the writable bits of a value: 11:0, 13 and 16:15
-pub writable : (v : ℕ) → bitAnd v 0x1afff ≡ v % 4096 + v / 8192 % 2 * 8192 + v / 32768 % 4 * 32768
-writable v =
+pub and-writable : (v : ℕ) → bitAnd v 0x1afff ≡ v % 4096 + v / 8192 % 2 * 8192 + v / 32768 % 4 * 32768
+and-writable v =
     and-split v 12 0x1a 0xfff (lit< tt)
     ∙ ap₂ (λ (x y : ℕ). x * 4096 + y)
     (and-split (v / 4096) 3 3 2 (lit< tt)
@@ -30,9 +30,9 @@ writable v =
     ∙ fields (v % 4096) (v / 8192 % 2) (v / 32768 % 4)
 
 -- the writable bits of v, and bit 14 of w
-pub keeps : (w v : ℕ) → bitOr (bitAnd v 0x1afff) (bitAnd w 0x4000) ≡ v % 4096 + v / 8192 % 2 * 8192 + v / 32768 % 4 * 32768 + w / 16384 % 2 * 16384
-keeps w v =
-    ap₂ bitOr (writable v) (and-bit w 14)
+pub or-written : (w v : ℕ) → bitOr (bitAnd v 0x1afff) (bitAnd w 0x4000) ≡ v % 4096 + v / 8192 % 2 * 8192 + v / 32768 % 4 * 32768 + w / 16384 % 2 * 16384
+or-written w v =
+    ap₂ bitOr (and-writable v) (and-bit w 14)
     ∙ put-bit (v % 4096 + v / 8192 % 2 * 8192 + v / 32768 % 4 * 32768) 14 (w / 16384 % 2)
     (fields-14 (v % 4096) (v / 8192 % 2) (v / 32768 % 4) (mod-lt v (lit< tt)) (mod-lt (v / 8192) (lit< tt)))
     (mod-lt (w / 16384) (lit< tt))

@@ -2,7 +2,7 @@
 use mathlib.Core.Path.{_≡_, refl, sym, ap, _∙_}
 use mathlib.Core.Bool.{Bool, true, false, not, cond, _&&_}
 use mathlib.Core.List.{List}
-use Prim.Native.Nat.{ℕ, zero, suc, _+_, _-_, _*_, _/_, _%_, _<_}
+use Prim.Native.Nat.{ℕ, _+_, _-_, _*_, _/_, _%_, _<_}
 use native.Mathlib.Omega.{arith}
 use native.Mathlib.Nat.{mod-lt}
 use lib.Dec.{eqb, leb, lit<}
@@ -10,14 +10,14 @@ use lib.ListN.{getD, set}
 use lib.Seq.{set-getD}
 use borrow.Author.Tests.{eq-eqb, eqb-true}
 use Rattle.pins.specs.Pins.{allFrom, pins}
-use Rattle.pins.proofs.Bools.{clash, and-left, and-right, and-both, and-false, not-both, not-both-of}
+use Rattle.pins.proofs.Bools.{clash, and-left, and-right, and-both, not-both, not-both-of}
 use Rattle.pins.proofs.Every.{every-at, every-of}
 use Rattle.pins.proofs.Fill.{getD-tab}
 use Rattle.pins.proofs.Store.{getD-set}
 use Rattle.entries.specs.declared.Entries.{Entries}
-use Rattle.entries.specs.Word.{vectorOf, levelOf, remoteOf, maskedOf, withRemote, withoutRemote, writable, written, wordOk}
+use Rattle.entries.specs.Word.{vectorOf, levelOf, maskedOf, withRemote, withoutRemote, writable, written, wordOk}
 use Rattle.entries.specs.Pin.{asserted, makesEdge, heldAfter, endedWord, pinOk}
-use Rattle.entries.specs.Table.{resetEntries, lowAt, levelAt, heldAt, withLow, withHeld, withLevel, pinOkAt, entriesOk, levelsOk, wired, pulsed, ended, taken, lowWritten, highWritten, heldAfterWrite}
+use Rattle.entries.specs.Table.{resetEntries, lowAt, levelAt, heldAt, heldOn, withLow, withHeld, withLevel, pinOkAt, entriesOk, levelsOk, wired, ended, taken, lowWritten, highWritten, heldAfterWrite}
 use Rattle.entries.proofs.Sized.{Sized}
 
 -- what `pinOk` tests
@@ -127,9 +127,6 @@ module _ {w level held : ℕ} (g : PinGood w level held) where
   unfolding heldAfter makesEdge
   wired-good after l = go (levelOf w) refl
     where
-      edges : Bool → ℕ
-      edges v = cond (not (maskedOf w) && not v && not (asserted w level) && asserted w after) 1 held
-
       fits : (b : Bool) → leb (cond b 1 held) 1 ≡ true
       fits true = refl
       fits false = g .held-fits
@@ -158,7 +155,7 @@ module _ {w level held : ℕ} (g : PinGood w level held) where
 
 -- ---- a write
 
-fields-12 : (m a b d : ℕ) → m < 4096 → (m + a * 8192 + b * 32768 + d * 16384) / 4096 % 2 ≡ 0
+pub fields-12 : (m a b d : ℕ) → m < 4096 → (m + a * 8192 + b * 32768 + d * 16384) / 4096 % 2 ≡ 0
 fields-12 m a b d h = omega arith
 
 fields-15 : (m a b d : ℕ) → m < 4096 → a < 2 → d < 2 → (m + a * 8192 + b * 32768 + d * 16384) / 32768 ≡ b
@@ -239,14 +236,11 @@ module _ (e : Entries) (ok : entriesOk e ≡ true) where
       every-of (pinOkAt (withLow e (pins (λ i. endedWord (lowAt e i) v))))
       (λ i l. rw (getD-tab (λ i. endedWord (lowAt e i) v) 24 i 0 l) (pin-ok (endedWord (lowAt e i) v) (levelAt e i) (heldAt e i) (ended-good (pins-good i l) v)))
 
-  abbrev edges : List ℕ → ℕ → ℕ
-  edges l i = heldAfter (lowAt e i) (levelAt e i) (getD l i 0) (heldAt e i)
-
   pub wired-ok : (l : List ℕ) → levelsOk l ≡ true → entriesOk (wired e l) ≡ true
   unfolding entriesOk wired
   wired-ok l fit =
-      every-of (pinOkAt (withLevel (withHeld e (pins (edges l))) l))
-      (λ i k. rw (getD-tab (edges l) 24 i 0 k) (pin-ok (lowAt e i) (getD l i 0) (edges l i) (wired-good (pins-good i k) (getD l i 0) (levels-at l fit i k))))
+      every-of (pinOkAt (withLevel (withHeld e (pins (heldOn e l))) l))
+      (λ i k. rw (getD-tab (heldOn e l) 24 i 0 k) (pin-ok (lowAt e i) (getD l i 0) (heldOn e l i) (wired-good (pins-good i k) (getD l i 0) (levels-at l fit i k))))
 
   pub high-written-ok : (n v : ℕ) → entriesOk (highWritten e n v) ≡ true
   unfolding entriesOk

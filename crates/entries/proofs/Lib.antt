@@ -4,5 +4,9 @@ pub mod Formed
 pub mod Pulse
 pub mod Apart
 pub mod Delivery
+pub mod Gained
 pub mod One
+pub mod Strikes
 pub mod Edges
+pub mod ReadBack
+pub mod Stays

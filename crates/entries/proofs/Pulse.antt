@@ -1,5 +1,5 @@
 -- Laws of wire changes, for whoever drives the wires: the same levels again change nothing; a second pulse changes nothing.
-use mathlib.Core.Path.{_≡_, refl, sym, ap, ap₂, _∙_}
+use mathlib.Core.Path.{_≡_, refl, sym, ap, _∙_}
 use mathlib.Core.Bool.{Bool, true, false, not, cond, _&&_, _||_}
 use mathlib.Core.List.{List}
 use Prim.Native.Nat.{ℕ, zero, suc, _/_, _<_}
@@ -16,7 +16,8 @@ use Rattle.pins.proofs.Fill.{getD-tab, length-tab}
 use Rattle.entries.specs.declared.Entries.{Entries}
 use Rattle.entries.specs.Word.{levelOf, maskedOf, activeLowOf}
 use Rattle.entries.specs.Pin.{asserted, makesEdge, heldAfter}
-use Rattle.entries.specs.Table.{lowAt, levelAt, heldAt, withHeld, withLevel, entriesOk, levelsOk, wired, wiredAt, pulsed}
+use Rattle.entries.specs.Table.{lowAt, levelAt, heldAt, heldOn, withHeld, withLevel, entriesOk, levelsOk, wired, pulsed}
+use Rattle.entries.specs.Inner.{wiredAt}
 use Rattle.entries.proofs.Sized.{Sized, wired-sized}
 use Rattle.entries.proofs.Formed.{levels-at, levels-of, wired-ok}
 
@@ -30,12 +31,9 @@ pub wired-low : (e : Entries) (l : List ℕ) → wired e l .low ≡ e .low
 unfolding wired
 wired-low e l = refl
 
-abbrev edges : Entries → List ℕ → ℕ → ℕ
-edges e l i = heldAfter (lowAt e i) (levelAt e i) (getD l i 0) (heldAt e i)
-
-pub wired-held : (e : Entries) (l : List ℕ) (i : ℕ) → i < 24 → heldAt (wired e l) i ≡ edges e l i
+pub wired-held : (e : Entries) (l : List ℕ) (i : ℕ) → i < 24 → heldAt (wired e l) i ≡ heldOn e l i
 unfolding wired
-wired-held e l i h = getD-tab (edges e l) 24 i 0 h
+wired-held e l i h = getD-tab (heldOn e l) 24 i 0 h
 
 -- a wire change that leaves every held edge and every level is none
 no-change : (e : Entries) (h : ℕ → ℕ) → length (e .held) ≡ 24 → ((i : ℕ) → i < 24 → h i ≡ heldAt e i) → pins h ≡ e .held
@@ -119,8 +117,8 @@ more-held false false true h' e e' f g s = rw (f refl)
 more-held false false false true e e' f g s = refl
 more-held false false false false e e' f g s = g s
 
-is-one : {x y : ℕ} → (x ≡ 1 → y ≡ 1) → eqb x 1 ≡ true → eqb y 1 ≡ true
-is-one {x} {y} f q = ap (λ (n : ℕ). eqb n 1) (f (eqb-true x 1 q))
+one-kept : {x y : ℕ} → (x ≡ 1 → y ≡ 1) → eqb x 1 ≡ true → eqb y 1 ≡ true
+one-kept {x} {y} f q = ap (λ (n : ℕ). eqb n 1) (f (eqb-true x 1 q))
 
 -- held edges and high wires only make it hold more
 pub settled-more :
@@ -130,7 +128,7 @@ unfolding settled settledAs
 settled-more e d p q f g s =
     ap (λ (l : List ℕ). maskedOf (getD l p 0) || levelOf (getD l p 0) || eqb (heldAt d p) 1 || eqb (levelAt d p) 1) q
     ∙ more-held (maskedOf (lowAt e p)) (levelOf (lowAt e p)) (eqb (heldAt e p) 1) (eqb (heldAt d p) 1) (eqb (levelAt e p) 1) (eqb (levelAt d p) 1)
-    (is-one f) (is-one g) s
+    (one-kept f) (one-kept g) s
 
 edge-kept : (w x y h : ℕ) → h ≡ 1 → heldAfter w x y h ≡ 1
 unfolding heldAfter
@@ -152,7 +150,7 @@ module _ (e : Entries) (z : Sized e) where
   unfolding wired
   wired-same =
       ap (λ (h : List ℕ). withLevel (withHeld e h) (e .level))
-      (no-change e (edges e (e .level)) (z .held) (λ i l. held-same (lowAt e i) (levelAt e i) (heldAt e i)))
+      (no-change e (heldOn e (e .level)) (z .held) (λ i l. held-same (lowAt e i) (levelAt e i) (heldAt e i)))
 
   module _ (p : ℕ) (k : p < 24) where
     abbrev up : List ℕ
@@ -165,14 +163,14 @@ module _ (e : Entries) (z : Sized e) where
     p-long = rw (z .level) k
 
     -- the held edge of each pin after a pulse of pin p
-    at-p : edges high (e .level) p ≡ heldAfter (lowAt e p) 1 (levelAt e p) (heldAfter (lowAt e p) (levelAt e p) 1 (heldAt e p))
+    at-p : heldOn high (e .level) p ≡ heldAfter (lowAt e p) 1 (levelAt e p) (heldAfter (lowAt e p) (levelAt e p) 1 (heldAt e p))
     unfolding wired
-    at-p = rw (getD-tab (edges e up) 24 p 0 k) (rw (getD-set-same (e .level) p 1 0 p-long))
+    at-p = rw (getD-tab (heldOn e up) 24 p 0 k) (rw (getD-set-same (e .level) p 1 0 p-long))
 
-    at-other : (i : ℕ) → i < 24 → (i ≡ p → ⊥) → edges high (e .level) i ≡ heldAt e i
+    at-other : (i : ℕ) → i < 24 → (i ≡ p → ⊥) → heldOn high (e .level) i ≡ heldAt e i
     unfolding wired
     at-other i l n =
-        rw (getD-tab (edges e up) 24 i 0 l)
+        rw (getD-tab (heldOn e up) 24 i 0 l)
         (rw (getD-set-other (e .level) p i 1 0 n)
         (rw (held-same (lowAt e i) (levelAt e i) (heldAt e i)) (held-same (lowAt e i) (levelAt e i) (heldAt e i))))
 
@@ -181,9 +179,9 @@ module _ (e : Entries) (z : Sized e) where
     unfolding pulsed wired settled
     pulse-rests s =
         ap (λ (h : List ℕ). withLevel (withHeld e h) (e .level))
-        (no-change e (edges high (e .level)) (z .held) (λ i l. go i l (ℕ-discrete i p)))
+        (no-change e (heldOn high (e .level)) (z .held) (λ i l. go i l (ℕ-discrete i p)))
       where
-        go : (i : ℕ) → i < 24 → Dec (i ≡ p) → edges high (e .level) i ≡ heldAt e i
+        go : (i : ℕ) → i < 24 → Dec (i ≡ p) → heldOn high (e .level) i ≡ heldAt e i
         go i l (yes q) = rw q (at-p ∙ pulse-quiet (lowAt e p) (levelAt e p) (heldAt e p) s)
         go i l (no n) = at-other i l n
 
@@ -191,7 +189,7 @@ module _ (e : Entries) (z : Sized e) where
     pub pulse-settled : leb (levelAt e p) 1 ≡ true → settled (pulsed e (e .level) p) p ≡ true
     unfolding pulsed settled wired
     pulse-settled ok =
-        ap (settledAs (lowAt e p) (levelAt e p)) (getD-tab (edges high (e .level)) 24 p 0 k ∙ at-p)
+        ap (settledAs (lowAt e p) (levelAt e p)) (getD-tab (heldOn high (e .level)) 24 p 0 k ∙ at-p)
         ∙ pulse-settles (lowAt e p) (levelAt e p) (heldAt e p) ok
 
 -- higher levels, and a pulse of any pin, keep a pin settled
@@ -243,14 +241,14 @@ module _ (e : Entries) (z : Sized e) (p : ℕ) (k : p < 24) (x : ℕ) where
   unfolding wired wiredAt
   wired-one =
       ap (λ (h : List ℕ). withLevel (withHeld e h) (set (e .level) p x))
-      (ext-getD 0 (pins (edges e (set (e .level) p x))) (set (e .held) p new) (length-tab (edges e (set (e .level) p x)) 0 24 ∙ sym (length-set (e .held) p new ∙ z .held))
+      (ext-getD 0 (pins (heldOn e (set (e .level) p x))) (set (e .held) p new) (length-tab (heldOn e (set (e .level) p x)) 0 24 ∙ sym (length-set (e .held) p new ∙ z .held))
       (λ i j.
-      let l : i < 24 = rw (length-tab (edges e (set (e .level) p x)) 0 24) at j in
-      getD-tab (edges e (set (e .level) p x)) 24 i 0 l ∙ go i (ℕ-discrete i p)))
+      let l : i < 24 = rw (length-tab (heldOn e (set (e .level) p x)) 0 24) at j in
+      getD-tab (heldOn e (set (e .level) p x)) 24 i 0 l ∙ go i (ℕ-discrete i p)))
     where
       new : ℕ
       new = heldAfter (lowAt e p) (levelAt e p) x (heldAt e p)
 
-      go : (i : ℕ) → Dec (i ≡ p) → edges e (set (e .level) p x) i ≡ getD (set (e .held) p new) i 0
+      go : (i : ℕ) → Dec (i ≡ p) → heldOn e (set (e .level) p x) i ≡ getD (set (e .held) p new) i 0
       go i (yes q) = rw (q, getD-set-same (e .level) p x 0 (rw (z .level) k), getD-set-same (e .held) p new 0 (rw (z .held) k))
       go i (no n) = rw (getD-set-other (e .level) p i x 0 n, getD-set-other (e .held) p i new 0 n) (held-same (lowAt e i) (levelAt e i) (heldAt e i))

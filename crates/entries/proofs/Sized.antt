@@ -1,15 +1,16 @@
 -- The lists of a state are 24 long, as those of the code's arrays are; steps keep them so. There is no pin above 23.
-use mathlib.Core.Path.{_≡_, refl, sym, ap, ap₂, _∙_}
+use mathlib.Core.Path.{_≡_, ap, ap₂, _∙_}
 use mathlib.Core.Bool.{Bool, true, false, cond}
 use mathlib.Core.List.{List}
 use Prim.Native.Nat.{ℕ, _≤_}
-use lib.ListN.{getD, length, set, length-set, List·getD-eq-default}
+use lib.ListN.{length, set, length-set, List·getD-eq-default}
 use lib.Seq.{set-out}
 use Rattle.pins.proofs.Fill.{length-tab}
 use Rattle.entries.specs.declared.Entries.{Entries}
 use Rattle.entries.specs.Word.{modeOf, maskedOf, levelOf, remoteOf, withRemote, written, shown}
 use Rattle.entries.specs.Pin.{heldAfter, asserted, eligible, endedWord}
-use Rattle.entries.specs.Table.{lowAt, destinationAt, levelAt, heldAt, withLow, withHeld, withLevel, wired, wiredAt, pulsed, ended, taken, lowShown, lowWritten, highWritten, heldAfterWrite, destinationOf}
+use Rattle.entries.specs.Table.{lowAt, levelAt, heldAt, heldOn, withLow, withHeld, withLevel, wired, ended, taken, lowShown, lowWritten, highWritten, heldAfterWrite, destinationOf}
+use Rattle.entries.specs.Inner.{wiredAt}
 
 pub record Sized (e : Entries) : Type 0 where
   pub low : length (e .low) ≡ 24
@@ -20,7 +21,7 @@ pub record Sized (e : Entries) : Type 0 where
 module _ (e : Entries) (z : Sized e) where
   pub wired-sized : (l : List ℕ) → length l ≡ 24 → Sized (wired e l)
   unfolding wired
-  wired-sized l k = record { low = z .low; destination = z .destination; level = k; held = length-tab (λ i. heldAfter (lowAt e i) (levelAt e i) (getD l i 0) (heldAt e i)) 0 24 }
+  wired-sized l k = record { low = z .low; destination = z .destination; level = k; held = length-tab (heldOn e l) 0 24 }
 
   pub ended-sized : (v : ℕ) → Sized (ended e v)
   unfolding ended
@@ -54,9 +55,6 @@ module _ (e : Entries) (z : Sized e) where
 
     pub low-above : lowAt e n ≡ 0
     low-above = List·getD-eq-default (e .low) 0 (past (e .low) (z .low))
-
-    pub destination-above : destinationAt e n ≡ 0
-    destination-above = List·getD-eq-default (e .destination) 0 (past (e .destination) (z .destination))
 
     held-above : heldAt e n ≡ 0
     held-above = List·getD-eq-default (e .held) 0 (past (e .held) (z .held))

@@ -1,3 +1,5 @@
 pub mod Word
 pub mod Pin
 pub mod Table
+pub mod Inner
+pub mod Strike

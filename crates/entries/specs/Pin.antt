@@ -2,7 +2,7 @@
 use Prim.Native.Nat.{ℕ}
 use mathlib.Core.Bool.{Bool, not, cond, _&&_, _||_}
 use lib.Dec.{eqb, leb}
-use Rattle.entries.specs.Word.{vectorOf, modeOf, activeLowOf, remoteOf, levelOf, maskedOf, withRemote, withoutRemote, wordOk}
+use Rattle.entries.specs.Word.{vectorOf, modeOf, activeLowOf, remoteOf, levelOf, maskedOf, withoutRemote, wordOk}
 
 -- a pin is asserted when its wire differs from its active-low bit
 unfoldable pub asserted : ℕ → ℕ → Bool
@@ -16,13 +16,6 @@ makesEdge w before after = not (maskedOf w) && not (levelOf w) && not (asserted 
 unfoldable pub heldAfter : ℕ → ℕ → ℕ → ℕ → ℕ
 heldAfter w before after held = cond (makesEdge w before after) 1 held
 
--- the same from bytes, for the code that works on all pins at once: only inner functions cite it
-unfoldable pub takesEdges : ℕ → Bool
-takesEdges w = not (maskedOf w) && not (levelOf w)
-
-unfoldable pub heldBy : ℕ → ℕ → ℕ → ℕ → ℕ → ℕ
-heldBy edge activeLow before after held = cond (eqb edge 1 && eqb before activeLow && not (eqb after activeLow)) 1 held
-
 -- unmasked, delivery mode 000, and either edge with an edge held, or level, asserted, remote IRR 0
 unfoldable pub eligible : ℕ → ℕ → ℕ → Bool
 eligible w level held =
@@ -31,13 +24,6 @@ eligible w level held =
 -- an end of interrupt with vector v: a level entry whose present vector is v gets remote IRR 0; an edge entry is untouched
 unfoldable pub endedWord : ℕ → ℕ → ℕ
 endedWord w v = cond (levelOf w && eqb (vectorOf w) v) (withoutRemote w) w
-
--- a delivered pin's word and held edge: only inner functions cite them
-unfoldable pub takenWord : ℕ → ℕ
-takenWord w = cond (levelOf w) (withRemote w) w
-
-unfoldable pub heldTaken : ℕ → ℕ → ℕ
-heldTaken w held = cond (levelOf w) held 0
 
 -- well formed: writable bits only, beside remote IRR; no edge held on a level pin; the level and the held edge are 0 or 1
 unfoldable pub pinOk : ℕ → ℕ → ℕ → Bool

@@ -1,16 +1,15 @@
 -- The 24 entries with their pins' wires and held edges, and what each step makes of them (document 01, "Controller registers").
 use Prim.Native.Nat.{ℕ, _*_, _/_, _^_}
-use mathlib.Core.Bool.{Bool, cond, not, _&&_}
+use mathlib.Core.Bool.{Bool, cond}
 use mathlib.Core.List.{List}
-use lib.Dec.{leb, eqb}
+use lib.Dec.{leb}
 use lib.ListN.{getD, replicate, set}
-use mir.Val.{boolByte}
-use Rattle.pins.specs.Pins.{pins, first, every, bitsOf}
+use Rattle.pins.specs.Pins.{pins, first, every}
 use Rattle.answers.specs.declared.Answer.{Answer}
 use Rattle.answers.specs.declared.Answer.the-variants as answer
 use Rattle.entries.specs.declared.Entries.{Entries}
-use Rattle.entries.specs.Word.{vectorOf, logicalOf, activeLowOf, levelOf, withRemote, written, shown, wordOk}
-use Rattle.entries.specs.Pin.{takesEdges, heldAfter, eligible, endedWord, pinOk}
+use Rattle.entries.specs.Word.{vectorOf, logicalOf, levelOf, withRemote, written, shown}
+use Rattle.entries.specs.Pin.{heldAfter, eligible, endedWord, pinOk}
 
 -- every low word 0x00010000, high 0, wires low
 abbrev pub resetEntries : Entries
@@ -50,13 +49,6 @@ eligibleAt e i = eligible (lowAt e i) (levelAt e i) (heldAt e i)
 abbrev pub pinOkAt : Entries → ℕ → Bool
 pinOkAt e i = pinOk (lowAt e i) (levelAt e i) (heldAt e i)
 
--- the same in parts: only inner functions cite them
-unfoldable pub wordsOk : List ℕ → Bool
-wordsOk w = every (λ i. wordOk (getD w i 0))
-
-unfoldable pub edgesOk : List ℕ → List ℕ → Bool
-edgesOk w h = every (λ i. not (levelOf (getD w i 0) && eqb (getD h i 0) 1))
-
 unfoldable pub entriesOk : Entries → Bool
 entriesOk e = every (pinOkAt e)
 
@@ -68,26 +60,15 @@ levelsOk l = every (λ i. leb (getD l i 0) 1)
 unfoldable pub firstEligible : Entries → ℕ
 firstEligible e = first (eligibleAt e)
 
--- the eligible pins as one number: bit i is 1 where pin i is eligible
-unfoldable pub eligiblePins : Entries → ℕ
-eligiblePins e = bitsOf (eligibleAt e)
-
 -- ---- steps
+
+-- what pin i holds once the wires are l
+abbrev pub heldOn : Entries → List ℕ → ℕ → ℕ
+heldOn e l i = heldAfter (lowAt e i) (levelAt e i) (getD l i 0) (heldAt e i)
 
 -- the wires change to these levels, all at once: each unmasked edge pin that went from not asserted to asserted holds an edge
 unfoldable pub wired : Entries → List ℕ → Entries
-wired e l = withLevel (withHeld e (pins (λ i. heldAfter (lowAt e i) (levelAt e i) (getD l i 0) (heldAt e i)))) l
-
--- which pins take edges, and which are active low, a byte each: only inner functions cite them
-unfoldable pub edgePins : List ℕ → List ℕ
-edgePins w = pins (λ i. boolByte (takesEdges (getD w i 0)))
-
-unfoldable pub activeLows : List ℕ → List ℕ
-activeLows w = pins (λ i. activeLowOf (getD w i 0))
-
--- the same where only pin p's wire changes: only inner functions cite it
-unfoldable pub wiredAt : Entries → ℕ → ℕ → Entries
-wiredAt e p x = withLevel (withHeld e (set (e .held) p (heldAfter (lowAt e p) (levelAt e p) x (heldAt e p)))) (set (e .level) p x)
+wired e l = withLevel (withHeld e (pins (heldOn e l))) l
 
 -- pin p's wire raised from the levels l and dropped again, two steps
 unfoldable pub pulsed : Entries → List ℕ → ℕ → Entries

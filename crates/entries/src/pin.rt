@@ -1,6 +1,7 @@
 // One pin: its low word with the level of its wire and its held edge.
 ghost use mathlib.Core.Path.{_≡_};
-ghost use Rattle.entries.specs.Pin.{asserted, takesEdges, makesEdge, heldAfter, heldBy, eligible, endedWord, takenWord, heldTaken};
+ghost use Rattle.entries.specs.Pin.{asserted, makesEdge, heldAfter, eligible, endedWord};
+ghost use Rattle.entries.specs.Inner.{takesEdges, heldBy, takenWord, heldTaken};
 use crate::Low;
 
 // The held edge after a change of the wire, by whether the pin takes edges and whether it is active low, 0 or 1.

@@ -1,6 +1,7 @@
 // The 24 entries, and what each step makes of them.
 ghost use mathlib.Core.Path.{_≡_};
-ghost use Rattle.entries.specs.Table.{resetEntries, firstEligible, eligiblePins, lowAt, destinationAt, ended, given, taken, lowShown, highShown, lowWritten, highWritten};
+ghost use Rattle.entries.specs.Table.{resetEntries, firstEligible, lowAt, destinationAt, ended, given, taken, lowShown, highShown, lowWritten, highWritten};
+ghost use Rattle.entries.specs.Inner.{eligiblePins};
 use crate::Entries;
 use crate::Low;
 use answers::Answer;
@@ -8,6 +9,7 @@ use answers::Answer;
 impl Entries {
     pub const PINS: usize = 24;
 
+    // a high word's destination: bits 31:24, writable
     pub const DESTINATION_AT: u32 = 24;
 
     pub fn reset() -> Entries

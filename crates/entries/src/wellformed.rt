@@ -1,6 +1,7 @@
 // Whether the entries are well formed.
 ghost use mathlib.Core.Path.{_≡_};
-ghost use Rattle.entries.specs.Table.{wordsOk, edgesOk, entriesOk, levelsOk};
+ghost use Rattle.entries.specs.Table.{entriesOk, levelsOk};
+ghost use Rattle.entries.specs.Inner.{wordsOk, edgesOk};
 use crate::Entries;
 use crate::Low;
 

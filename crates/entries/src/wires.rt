@@ -1,6 +1,7 @@
 // The wires of the pins change.
 ghost use mathlib.Core.Path.{_≡_};
-ghost use Rattle.entries.specs.Table.{edgePins, activeLows, wired, wiredAt};
+ghost use Rattle.entries.specs.Table.{wired};
+ghost use Rattle.entries.specs.Inner.{edgePins, activeLows, wiredAt};
 use crate::Entries;
 use crate::Low;
 use crate::pin::held_by;

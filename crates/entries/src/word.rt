@@ -5,34 +5,40 @@ ghost use Rattle.entries.specs.Word.{vectorOf, modeOf, logicalOf, active
 use crate::Low;
 
 impl Low {
+    // ---- its bits, in the order of the paper's table
+
+    // 7:0 vector, writable
     pub const VECTOR: u32 = 0xff;
-
+    // 10:8 delivery mode, writable
     pub const MODE_AT: u32 = 8;
-
+    // its three bits, shifted down
     pub const MODE: u32 = 0x7;
-
+    // 11 logical destination, writable
     pub const LOGICAL_AT: u32 = 11;
-
+    // 12 delivery status, read only: 1 exactly for an eligible pin
     pub const STATUS_AT: u32 = 12;
-
+    // it alone
     pub const STATUS: u32 = 0x0000_1000;
-
+    // 13 active low, writable
     pub const ACTIVE_LOW_AT: u32 = 13;
-
+    // 14 remote IRR, read only: it survives every write
     pub const REMOTE_AT: u32 = 14;
-
+    // it alone, and all but it
     pub const REMOTE: u32 = 0x0000_4000;
 
     pub const NOT_REMOTE: u32 = 0xffff_bfff;
-
+    // 15 level, writable
     pub const LEVEL_AT: u32 = 15;
-
+    // 16 mask, writable
     pub const MASKED_AT: u32 = 16;
-
+    // 31:17 not used, 0
     pub const UNUSED_AT: u32 = 17;
 
-    pub const WRITABLE: u32 = 0x0001_afff;
+    // ---- whole words
 
+    // what a write takes: 16:15, 13, 11:0
+    pub const WRITABLE: u32 = 0x0001_afff;
+    // masked, all else 0
     pub const RESET: u32 = 0x0001_0000;
 
     pub fn vector(self) -> u8

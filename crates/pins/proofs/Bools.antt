@@ -1,7 +1,9 @@
 -- Laws of Booleans.
-use mathlib.Core.Path.{_≡_, refl, sym, ap, subst, _∙_}
-use mathlib.Core.Bool.{Bool, true, false, not, cond, _&&_, _||_}
-use lib.Dec.{T}
+use mathlib.Core.Path.{_≡_, refl, sym, subst}
+use mathlib.Core.Bool.{Bool, true, false, not, _&&_, _||_}
+use Prim.Native.Nat.{_<_}
+use lib.Dec.{T, eqb, lit<}
+use mir.Val.{boolByte}
 
 pub clash : {A : Type 0} → true ≡ false → A
 clash e = absurd (subst T e tt)
@@ -66,8 +68,12 @@ pub not-true-false : (a : Bool) → (a ≡ true → ⊥) → a ≡ false
 not-true-false true f = absurd (f refl)
 not-true-false false f = refl
 
-pub cond-true : {A : Type 0} (b : Bool) (x y : A) → b ≡ true → cond b x y ≡ x
-cond-true b x y e = rw e
+-- ---- as a byte
 
-pub cond-false : {A : Type 0} (b : Bool) (x y : A) → b ≡ false → cond b x y ≡ y
-cond-false b x y e = rw e
+pub byte-lt : (b : Bool) → boolByte b < 2
+byte-lt true = lit< tt
+byte-lt false = lit< tt
+
+pub eqb-byte : (b : Bool) → eqb (boolByte b) 1 ≡ b
+eqb-byte true = refl
+eqb-byte false = refl

@@ -1,8 +1,8 @@
 -- A number whose bits are a predicate's values, built from the highest down, and the count of its trailing zeros.
-use mathlib.Core.Path.{_≡_, refl, sym, ap, ap₂, _∙_}
+use mathlib.Core.Path.{_≡_}
 use mathlib.Core.Bool.{Bool, true, false, cond}
-use Prim.Native.Nat.{ℕ, zero, suc, _+_, _-_, _*_, _/_, _%_, _^_, _<_, _≤_, min}
-use native.Mathlib.Nat.{pow-suc, mod-eq-of-lt, not-suc-le-zero, le-of-suc-le-suc, le-trans}
+use Prim.Native.Nat.{ℕ, zero, suc, _+_, _-_, _*_, _%_, _^_, _<_, _≤_, min}
+use native.Mathlib.Nat.{pow-suc, mod-eq-of-lt, not-suc-le-zero, le-of-suc-le-suc}
 use native.Mathlib.Omega.{arith}
 use lib.Dec.{lit<}
 use lib.Arith.{digits-div, digits-mod}
@@ -11,10 +11,7 @@ use lib.Count.{trailingZeros, under}
 use lib.Pow.{pow-mono}
 use mir.Val.{boolByte}
 use Rattle.pins.specs.Pins.{bitsFrom, firstFrom}
-
-byte-lt : (b : Bool) → boolByte b < 2
-byte-lt true = lit< tt
-byte-lt false = lit< tt
+use Rattle.pins.proofs.Bools.{byte-lt}
 
 -- one digit more, below the others
 step : (b : Bool) (at n t r : ℕ) → suc at + min n t ≡ r → at + min (suc n) (under (boolByte b) t) ≡ cond b at r

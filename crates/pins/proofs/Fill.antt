@@ -1,7 +1,7 @@
 -- A loop that fills a list from the front by the values of a function: after i turns it is `tab f 0 i ++ drop i d`.
-use mathlib.Core.Path.{_≡_, refl, sym, ap, ap₂, _∙_}
+use mathlib.Core.Path.{_≡_, refl, sym, ap, _∙_}
 use mathlib.Core.List.{List, [], _∷_, _++_, append-nil}
-use Prim.Native.Nat.{ℕ, zero, suc, _+_, _<_, _≤_}
+use Prim.Native.Nat.{ℕ, zero, suc, _+_, _<_}
 use native.Mathlib.Nat.{not-suc-le-zero, le-of-suc-le-suc, add-zero, add-suc, suc-add, zero-add, le-of-eq}
 use native.Mathlib.Numerals.{add-one}
 use lib.ListN.{length, set, drop, getD, drop-of-length-le}

@@ -2,7 +2,7 @@
 use mathlib.Core.Path.{_≡_, refl, sym, ap, subst, _∙_}
 use mathlib.Core.Bool.{Bool, true, false, cond}
 use Prim.Native.Nat.{ℕ, zero, suc, _+_, _<_, _≤_}
-use native.Mathlib.Nat.{add-zero, zero-add, not-suc-le-zero}
+use native.Mathlib.Nat.{add-zero}
 use native.Mathlib.Omega.{arith}
 use native.Mathlib.Decide.{ℕ-discrete}
 use Rattle.pins.specs.Pins.{firstFrom, first}
@@ -63,8 +63,8 @@ module _ (p : ℕ → Bool) where
       let e : p at ≡ false = f at (omega arith) (omega arith) in
       rw e (from-none (suc at) n (λ j a l. f j (omega arith) (omega arith)) ∙ omega arith)
 
-  pub first-le : first p ≤ 24
-  first-le = from-le 0 24
+  pub first-le-24 : first p ≤ 24
+  first-le-24 = from-le 0 24
 
   pub first-found : (i : ℕ) → i < 24 → first p ≡ i → First p i
   first-found i l e =

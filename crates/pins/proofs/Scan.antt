@@ -1,5 +1,5 @@
 -- A loop that counts i up to n: what is left of a scan from i on.
-use mathlib.Core.Path.{_≡_, refl, sym, ap, _∙_}
+use mathlib.Core.Path.{_≡_, sym, ap, _∙_}
 use mathlib.Core.Bool.{Bool, true, false, _&&_}
 use Prim.Native.Nat.{ℕ, zero, suc, _+_, _-_, _<_, _≤_}
 use native.Mathlib.Nat.{add-zero, add-suc, suc-add, zero-add}
@@ -9,39 +9,21 @@ use Rattle.pins.specs.Pins.{firstFrom, allFrom}
 use Rattle.pins.proofs.Bools.{and-true, and-assoc}
 
 module _ (p : ℕ → Bool) (n i : ℕ) where
-  pub first-next : i < n → p i ≡ false → firstFrom p i (n - i) ≡ firstFrom p (i + 1) (n - (i + 1))
+  pub scan-next : i < n → p i ≡ false → firstFrom p i (n - i) ≡ firstFrom p (i + 1) (n - (i + 1))
   unfolding firstFrom
-  first-next h e =
+  scan-next h e =
       let s : n - i ≡ suc (n - (i + 1)) = omega arith in
       rw (s, e, add-one)
 
-  pub first-here : i < n → p i ≡ true → firstFrom p i (n - i) ≡ i
+  pub scan-here : i < n → p i ≡ true → firstFrom p i (n - i) ≡ i
   unfolding firstFrom
-  first-here h e =
+  scan-here h e =
       let s : n - i ≡ suc (n - (i + 1)) = omega arith in
       rw (s, e)
 
-  pub first-end : n ≤ i → firstFrom p i (n - i) ≡ i
+  pub scan-end : n ≤ i → firstFrom p i (n - i) ≡ i
   unfolding firstFrom
-  first-end h =
-      let s : n - i ≡ 0 = omega arith in
-      rw s
-
-  pub all-next : i < n → p i ≡ true → allFrom p i (n - i) ≡ allFrom p (i + 1) (n - (i + 1))
-  unfolding allFrom
-  all-next h e =
-      let s : n - i ≡ suc (n - (i + 1)) = omega arith in
-      rw (s, e, add-one)
-
-  pub all-not : i < n → p i ≡ false → allFrom p i (n - i) ≡ false
-  unfolding allFrom
-  all-not h e =
-      let s : n - i ≡ suc (n - (i + 1)) = omega arith in
-      rw (s, e)
-
-  pub all-end : n ≤ i → allFrom p i (n - i) ≡ true
-  unfolding allFrom
-  all-end h =
+  scan-end h =
       let s : n - i ≡ 0 = omega arith in
       rw s
 

@@ -1,6 +1,6 @@
 -- Functions of the 24 pins, by their numbers: tables, the first pin where a test holds, the test at every pin, the pins as one number.
 use Prim.Native.Nat.{ℕ, zero, suc, _+_, _*_}
-use mathlib.Core.Bool.{Bool, true, false, cond, _&&_}
+use mathlib.Core.Bool.{Bool, true, cond, _&&_}
 use mathlib.Core.List.{List, [], _∷_}
 use mir.Val.{boolByte}
 

@@ -32,76 +32,44 @@ fn output(log: &[u8], out: &mut [u8]) -> usize
     r.written
 }
 
+fn print(text: &[u8]) {
+    program::print(b"replay", text);
+}
+
 fn answer(log: &[u8]) {
     let mut out = room();
     let n = output(log, &mut out);
-    io::write_all(libc::STDOUT_FILENO, &out[..n]);
-}
-
-// `io::read_full` stops at the input's end and at a read that fails: only at the end does another read give nothing.
-fn at_end(fd: i32) -> bool {
-    let mut more = [0u8; 1];
-    libc::read(fd, &mut more) == 0
+    print(&out[..n]);
 }
 
 // One byte more than is taken is read, to tell a longer log.
-fn run(fd: i32, name: &[u8]) {
+fn run() {
     let mut log = [0u8; 65537];
-    let n = io::read_full(fd, &mut log);
-    if n < 65537 {
-        if !at_end(fd) {
-            os::fail(name);
-            return;
-        }
+    let read = program::read_input(b"replay", 1, &mut log);
+    if !read.ok {
+        return;
     }
+    let n = read.moved;
     answer(&log[..n]);
 }
 
-fn usage(fd: i32) {
-    io::write_all(fd, b"usage: replay [FILE]\n");
-    io::write_all(
-        fd,
-        b"Replays an event log, the file or standard input, on a board from reset.\n",
+// Asked for, or after a wrong use.
+fn usage(wrong: bool) {
+    program::usage(
+        b"replay",
+        wrong,
+        b"usage: replay [FILE]\nReplays an event log on a board from reset, and prints a line for each record.\nFILE is the log, of at most 65,536 bytes; no FILE or - is standard input.\n",
     );
 }
 
-fn is_help(s: &[u8]) -> bool {
-    if s.len() != 6 {
-        return false;
-    }
-    let dashes = (s[0] == b'-') & (s[1] == b'-');
-    dashes & (s[2] == b'h') & (s[3] == b'e') & (s[4] == b'l') & (s[5] == b'p')
-}
-
-fn run_file(path: &[u8]) {
-    let fd = os::open_read(path);
-    if fd < 0 {
-        os::fail(path);
-        return;
-    }
-    run(fd, path);
-    libc::close(fd);
-}
-
 fn main() {
-    let count = os::arg_count();
-    if count < 2 {
-        run(libc::STDIN_FILENO, b"standard input");
+    if program::asks_help() {
+        usage(false);
         return;
     }
-    if 2 < count {
-        usage(libc::STDERR_FILENO);
+    if !program::one_input(1) {
+        usage(true);
         return;
     }
-    let mut path = io::buffer();
-    let length = os::arg(1, &mut path);
-    if os::errno() != 0 {
-        os::fail(b"the file's name");
-        return;
-    }
-    if is_help(&path[..length]) {
-        usage(libc::STDOUT_FILENO);
-        return;
-    }
-    run_file(&path[..length]);
+    run();
 }

@@ -1,20 +1,16 @@
 -- A configuration put together of its bits.
 use Prim.Native.Nat.{ℕ, _+_, _-_, _*_, _%_, _^_, _<_, _≤_}
 use mathlib.Core.Path.{_≡_, sym, ap, _∙_}
-use mathlib.Core.Bool.{Bool, true, false}
+use mathlib.Core.Bool.{Bool}
 use native.Mathlib.Nat.{mod-eq-of-lt, mul-assoc, mul-mod-left}
 use native.Mathlib.Omega.{arith}
 use lib.Bits.{bitOr, or-shifted, or-shifted-r}
 use lib.Pow.{shl-exact, pow-add}
-use lib.Dec.{lit<}
 use mir.Val.{boolByte}
+use Rattle.pins.proofs.Bools.{byte-lt}
 use Rattle.timer.specs.declared.Timer.{Timer}
 use Rattle.timer.specs.State.{flag}
 use Rattle.timer.specs.Registers.{placed, configurationOf}
-
-byte-lt : (b : Bool) → boolByte b < 2 ^ 1
-byte-lt true = lit< tt
-byte-lt false = lit< tt
 
 -- a bit in its place
 pub placed-exact : (b : Bool) (k : ℕ) → k < 64 → boolByte b * 2 ^ k % 2 ^ 64 ≡ boolByte b * 2 ^ k

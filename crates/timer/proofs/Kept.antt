@@ -8,7 +8,7 @@ use lib.Pow.{pow-pos}
 use lib.Dec.{ltb, lit≤}
 use borrow.Author.Tests.{eqb-true, ltb-true}
 use Rattle.timer.specs.declared.Timer.{Timer}
-use Rattle.timer.specs.State.{flag, width, reduced, narrowed, withComparator, withPeriod, withSet, blank, resetTimer}
+use Rattle.timer.specs.State.{flag, width, reduced, narrowed, withComparator, withPeriod, withSet, resetTimer}
 use Rattle.timer.specs.Formed.{timerFormed, flagsFit, narrowFits, Formed}
 use Rattle.timer.specs.Registers.{bit, configuredOf, comparedOf, clearedOf}
 use Rattle.timer.specs.Tick.{firing}
@@ -154,10 +154,6 @@ module _ (t : Timer) (e : timerFormed t ≡ true) where
 
   pub cleared-formed : timerFormed (clearedOf t) ≡ true
   cleared-formed = formed-out (clearedOf t) (cleared-facts t (formed-in t e))
-
-pub blank-formed : timerFormed blank ≡ true
-unfolding timerFormed flagsFit narrowFits
-blank-formed = refl
 
 pub reset-formed : timerFormed resetTimer ≡ true
 unfolding timerFormed flagsFit narrowFits resetTimer

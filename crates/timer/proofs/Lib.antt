@@ -7,6 +7,7 @@
 --   Formed   well-formedness: from the test to the facts and back
 --   Kept     what keeps it
 --   Bits, Written   register words as the code makes them
+--   ReadBack   a read after a write, bit by bit
 pub mod Width
 pub mod Closed
 pub mod Ran
@@ -16,3 +17,4 @@ pub mod Formed
 pub mod Kept
 pub mod Bits
 pub mod Written
+pub mod ReadBack

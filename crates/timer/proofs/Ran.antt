@@ -8,7 +8,6 @@ use native.Mathlib.Decide.{decLe, decLt}
 use lib.Pow.{pow-pos}
 use Rattle.timer.specs.declared.Timer.{Timer}
 use Rattle.timer.specs.State.{flag, width, reduced, narrowed, withStatus, withComparator}
-use Rattle.timer.specs.Tick.{firing}
 use Rattle.timer.specs.Alone.{run, runOf}
 use Rattle.timer.specs.Closed.{times, stride, firedTo, closed, begins, Ahead}
 use Rattle.timer.proofs.Width.{times-never, times-early, times-late}
@@ -128,18 +127,6 @@ answer-some t c n d s f last next hk hn a es ef ne el en =
     let q : f ≡ times d (stride t) n = ef ∙ ap (λ (x : ℕ). times d x n) es in
     let y = some-firing d (stride t) n (λ z. ne (q ∙ z)) in
     (λ i. run ((fired-to t f s last next es ne el en ∙ ap (closed t) q) i) (q i) (sym (begins-late d n (y .due)) i)) ∙ ran-closed t c d n hk a hn
-
--- one firing, by a sum of the machine
-pub fired-once : (t : Timer) (x : ℕ) → x ≡ (t .comparator + t .period) % 2 ^ 64 → firedTo t x ≡ firing t
-unfolding firing
-fired-once t x e = ap (firedTo t) e ∙ go (flag (t .periodic))
-  where
-    w : Bool
-    w = narrowed t
-
-    go : (b : Bool) → made t (cond b ((t .comparator + t .period) % 2 ^ 64 % 2 ^ width w) (t .comparator)) ≡ made t (cond b ((t .comparator + t .period) % 2 ^ width w) (t .comparator))
-    go true = ap (made t) (wrap w (t .comparator + t .period))
-    go false = refl
 
 -- status and comparator as the code chooses them
 pub fired-code : (t : Timer) (next x k st : ℕ) → next < 2 ^ 64 → x ≡ reduced (narrowed t) next → k ≡ cond (flag (t .periodic)) x (t .comparator) → st ≡ cond (flag (t .«level_type»)) 1 (t .status) → withStatus (withComparator t k) st ≡ firedTo t next

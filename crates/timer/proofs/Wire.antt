@@ -5,7 +5,8 @@ use mathlib.Core.Bool.{Bool, true, false, cond, not, _&&_, _||_}
 use lib.Dec.{T, eqb}
 use Rattle.timer.specs.declared.Timer.{Timer}
 use Rattle.timer.specs.State.{flag}
-use Rattle.timer.specs.Tick.{firing, pulsing, raising, driving, holding}
+use Rattle.timer.specs.Tick.{firing, pulsing, driving}
+use Rattle.timer.specs.Inner.{raising, holding}
 
 -- edge type, or with its status set: no firing moves the wire by the timer's status
 unfoldable pub risen : Timer → Bool

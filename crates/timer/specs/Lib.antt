@@ -4,3 +4,4 @@ pub mod Registers
 pub mod Tick
 pub mod Alone
 pub mod Closed
+pub mod Inner

@@ -21,14 +21,6 @@ firing t =
 unfoldable pub pulsing : Timer → Bool
 pulsing t = not (flag (t .«level_type»)) && flag (t .interrupt)
 
--- a firing level timer with its interrupt enabled holds the wire of its pin high
-unfoldable pub raising : Timer → Bool
-raising t = flag (t .«level_type») && flag (t .interrupt)
-
 -- it is routed to the pin and has level type, interrupt enable and status
 unfoldable pub driving : Timer → ℕ → Bool
 driving t pin = flag (t .«level_type») && (flag (t .interrupt) && (flag (t .status) && eqb (t .route) pin))
-
--- the same of whatever pin it is routed to: only inner functions cite it
-unfoldable pub holding : Timer → Bool
-holding t = flag (t .«level_type») && (flag (t .interrupt) && flag (t .status))

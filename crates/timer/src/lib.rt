@@ -38,7 +38,7 @@ pub struct Run {
 fn reduced(narrow: bool, x: u64) -> u64
     ensures { λ r. ⌜ r ≡ reduced narrow x ⌝ }
 {
-    if narrow { x % 4294967296 } else { x }
+    if narrow { x % Timer::NARROW_END } else { x }
 }
 
 // Bit k of v: a number of 64 bits has none above 63.
@@ -95,30 +95,41 @@ fn routed(v: u64, old: u16) -> u16
     ensures { λ r. ⌜ r ≡ cond (ltb (v / 2 ^ 9 % 2 ^ 5) 24) (v / 2 ^ 9 % 2 ^ 5) old ⌝ }
 {
     let x = (v >> Timer::ROUTE) & Timer::ROUTE_MASK;
-    if x < 24 { x as u16 } else { old }
+    if x < Timer::PINS as u64 {
+        x as u16
+    } else {
+        old
+    }
 }
 
 impl Timer {
     // ---- the configuration register, by bit position
 
-    // writable
+    // 1 level type, writable
     pub const LEVEL_TYPE: u32 = 1;
-
+    // 2 interrupt enable, writable
     pub const INTERRUPT: u32 = 2;
-
+    // 3 periodic, writable
     pub const PERIODIC: u32 = 3;
-    // kept only if bit 3 is written 1
+    // 6 set-comparator, writable: kept only if bit 3 is written 1
     pub const SET_COMPARATOR: u32 = 6;
-    // 32-bit mode
+    // 8 32-bit mode, writable
     pub const NARROW: u32 = 8;
-    // 13:9
+    // 13:9 route, writable: a route above 23 keeps the old one
     pub const ROUTE: u64 = 9;
-
+    // its five bits, shifted down
     pub const ROUTE_MASK: u64 = 0x1F;
     // bits 5 and 4 read 1
     pub const CAPABLE: u64 = 0x30;
     // bits 63:32 read 0x00FFFFFF
     pub const ROUTES: u64 = 0x00FFFFFF00000000;
+
+    // ---- ranges
+
+    // a route is one of so many pins
+    pub const PINS: u16 = 24;
+    // 2^32: in 32-bit mode comparator and period are below it
+    pub const NARROW_END: u64 = 4294967296;
 
     // ---- reset
 
@@ -170,7 +181,8 @@ impl Timer {
     fn narrow_fits(self) -> bool
         ensures { λ r. ⌜ r ≡ narrowFits self ⌝ }
     {
-        (self.narrow == 0) | ((self.comparator < 4294967296) & (self.period < 4294967296))
+        (self.narrow == 0)
+            | ((self.comparator < Timer::NARROW_END) & (self.period < Timer::NARROW_END))
     }
 
     pub fn well_formed(self) -> bool
@@ -178,6 +190,6 @@ impl Timer {
     {
         let set = (self.set_comparator == 0) | (self.periodic == 1);
         let shown = (self.status == 0) | (self.level_type == 1);
-        set & (self.narrow_fits() & ((self.route < 24) & (shown & self.flags_fit())))
+        set & (self.narrow_fits() & ((self.route < Timer::PINS) & (shown & self.flags_fit())))
     }
 }

@@ -1,6 +1,7 @@
-// One tick of a timer, and many ticks at once.
+// What a firing leaves of a timer and does to its wire, and many ticks at once.
 ghost use mathlib.Core.Path.{_≡_};
-ghost use Rattle.timer.specs.Tick.{meets, firing, pulsing, raising, driving, holding};
+ghost use Rattle.timer.specs.Tick.{pulsing, driving};
+ghost use Rattle.timer.specs.Inner.{raising, holding};
 ghost use Rattle.timer.specs.Alone.{runOf};
 ghost use Rattle.timer.specs.Closed.{stride, firedTo, Ahead};
 use crate::Run;
@@ -11,15 +12,7 @@ use crate::firings;
 use crate::reduced;
 
 impl Timer {
-    // ---- one tick
-
-    // Whether counter and comparator are equal, in 32-bit mode modulo 2^32.
-    pub fn matches(self, counter: u64) -> bool
-        ensures { λ r. ⌜ r ≡ meets counter self ⌝ }
-    {
-        let narrow = self.narrow == 1;
-        reduced(narrow, counter) == reduced(narrow, self.comparator)
-    }
+    // ---- a firing
 
     // Status and comparator after firings: `next` is where a periodic timer's comparator goes, but for its width.
     fn fired_to(self, next: u64) -> Timer
@@ -33,13 +26,6 @@ impl Timer {
         );
         t.status = choose_flag(self.level_type == 1, 1, self.status);
         t
-    }
-
-    // One firing.
-    pub fn fired(self) -> Timer
-        ensures { λ r. ⌜ r ≡ firing self ⌝ }
-    {
-        self.fired_to(std::num::wrapping_add_u64(self.comparator, self.period))
     }
 
     // Its firing is a pulse.

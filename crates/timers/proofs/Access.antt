@@ -7,28 +7,24 @@ use native.Mathlib.Omega.{arith}
 use native.Mathlib.Decide.{ℕ-discrete}
 use lib.Bits.{bitOr, or-shifted}
 use lib.Dec.{eqb}
-use lib.ListN.{getD, length}
+use lib.ListN.{length}
 use mir.Val.{boolByte}
 use borrow.Author.Tests.{eq-eqb, ne-eqb, le-leb, lt-leb, lt-ltb, le-ltb}
+use Rattle.pins.proofs.Bools.{byte-lt}
 use Rattle.answers.specs.declared.Refusal.the-variants as refusal
 use Rattle.answers.specs.declared.Answer.the-variants as answer
 use Rattle.timer.specs.declared.Timer.{Timer}
 use Rattle.timer.specs.State.{flag}
 use Rattle.timer.specs.Registers.{bit, placed, configuredOf, comparedOf, clearedOf}
 use Rattle.timers.specs.declared.Timers.{Timers}
-use Rattle.timers.specs.declared.Ran.{Ran}
 use Rattle.timers.specs.State.{at, isEnabled, withCounter, withEnabled, withList, withTimers, withTimer}
 use Rattle.timers.specs.Formed.{wellFormed}
-use Rattle.timers.specs.Registers.{aligned, numbered, statusOf, timerRegister, registerOf, clearedBy, timerPut, timerWritten, writtenOf}
-use Rattle.timers.specs.Tick.{ticks, firings, ranOf}
+use Rattle.timers.specs.Registers.{aligned, numbered, statusOf, timerRegister, registerOf, clearedBy, timerWritten, writtenOf}
+use Rattle.timers.specs.Inner.{timerPut}
 use Rattle.timers.proofs.Three.{three-same, eta}
-use Rattle.timers.specs.Call.{turn, refused, readingOf, writingOf, advancingOf, readOf, writeOf, advanceOf}
+use Rattle.timers.specs.Call.{turn, refused, readingOf, writingOf, readOf, writeOf}
 
 -- ---- the status register
-
-byte-lt : (b : Bool) → boolByte b < 2
-byte-lt true = omega arith
-byte-lt false = omega arith
 
 pub status-code : (s : Timers) (x y z : ℕ) → x ≡ placed 2 (at s 2 .status) → y ≡ placed 1 (at s 1 .status) → z ≡ placed 0 (at s 0 .status) → bitOr x (bitOr y z) ≡ statusOf s
 unfolding statusOf
@@ -148,24 +144,6 @@ module _ (s : Timers) (w o : ℕ) where
     pub write-done : wellFormed s ≡ true → writeOf s w o v ≡ writingOf s w o v
     unfolding writeOf
     write-done e = rw e
-
-module _ (s : Timers) (n : ℕ) where
-  pub advance-refused : wellFormed s ≡ false → advanceOf s n ≡ refused s refusal.State
-  unfolding advanceOf
-  advance-refused e = rw e
-
-  pub advance-done : wellFormed s ≡ true → advanceOf s n ≡ advancingOf s n
-  unfolding advanceOf
-  advance-done e = rw e
-
-  pub advancing-is : advancingOf s n ≡ turn (ticks n s) (answer.Fired (firings 0 n s) (firings 1 n s) (firings 2 n s))
-  unfolding advancingOf
-  advancing-is = refl
-
-  -- by what `ran` gives
-  pub advancing-ran : (r : Ran) → r ≡ ranOf s n → turn (r .timers) (answer.Fired (getD (r .fired) 0 0) (getD (r .fired) 1 0) (getD (r .fired) 2 0)) ≡ advancingOf s n
-  unfolding ranOf advancingOf
-  advancing-ran r e = ap (λ (x : Ran). turn (x .timers) (answer.Fired (getD (x .fired) 0 0) (getD (x .fired) 1 0) (getD (x .fired) 2 0))) e
 
 -- ---- a write to the status register
 

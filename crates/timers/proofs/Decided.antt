@@ -1,40 +1,50 @@
--- What the tests decide of an access to a well-formed block, in the paper's order: 2, then 1 for the offset.
+-- What the tests decide of each call, in the paper's order.
 use Prim.Native.Nat.{ℕ}
 use mathlib.Core.Path.{_≡_, refl}
-use mathlib.Core.Bool.{Bool, true, false, not, cond}
-use mathlib.Core.List.{List, [], _∷_}
-use Rattle.answers.specs.declared.Answer.{Answer}
+use mathlib.Core.Bool.{Bool, true, not, cond}
+use mathlib.Core.List.{List, [], _∷_, _++_}
 use Rattle.answers.specs.declared.Answer.the-variants as answer
+use Rattle.answers.specs.declared.Refusal.{Refusal}
 use Rattle.answers.specs.declared.Refusal.the-variants as refusal
 use Rattle.answers.specs.Numbers.{numberOf, numbersOf}
 use Rattle.answers.specs.Order.{Test, test}
-use Rattle.answers.proofs.Order.{Decided, done-decided, refused-decided, later-decided}
-use Rattle.answers.proofs.Refused.{answerNumber}
+use Rattle.answers.proofs.Order.{Decided, done-decided, refused-decided, then-decided}
 use Rattle.timers.specs.declared.Timers.{Timers}
 use Rattle.timers.specs.declared.Turn.{Turn}
+use Rattle.timers.specs.Formed.{wellFormed}
 use Rattle.timers.specs.Registers.{aligned, inside, registerOf, writtenOf}
-use Rattle.timers.specs.Call.{turn, refused, accessed, readingOf, writingOf}
+use Rattle.timers.specs.Tick.{ticks, firings}
+use Rattle.timers.specs.Call.{refused, accessed, readingOf, writingOf, advancingOf, readOf, writeOf, advanceOf}
+use Rattle.timers.specs.Calls.{Call, read, write, advance, turnOf, readTests, writeTests, testsOf}
 
 abbrev pub DecidedTurn : Timers → List Test → Turn → Type 0
 DecidedTurn s ts t = Decided Timers ts s (t .timers) (t .answer)
 
-abbrev pub accessTests : ℕ → ℕ → List Test
-accessTests w o = test 2 (not (aligned w o)) ∷ test 1 (not (inside o)) ∷ []
+module _ (s : Timers) where
+  -- a test with its refusal, and what comes after it
+  then : (n : ℕ) (ts : List Test) (r : Refusal) (t : Turn) (f : Bool) → numberOf r ≡ n → DecidedTurn s ts t → DecidedTurn s (test n (not f) ∷ ts) (cond f t (refused s r))
+  then n ts r t f e =
+      then-decided (λ (x : Turn). x .timers) (λ (x : Turn). x .answer) s n ts t (refused s r) f (refused-decided s (test n true) ts r refl e)
 
-accessed-decided : (s : Timers) (w o : ℕ) (n : Timers) (a : Answer) → answerNumber a ≡ 0 → DecidedTurn s (accessTests w o) (accessed s w o (turn n a))
-unfolding numberOf
-accessed-decided s w o n a e = go (aligned w o) (inside o)
-  where
-    go : (x y : Bool) → DecidedTurn s (test 2 (not x) ∷ test 1 (not y) ∷ []) (cond x (cond y (turn n a) (refused s refusal.Offset)) (refused s refusal.Width))
-    go true true = later-decided s (test 2 false) (test 1 false ∷ []) n a refl (later-decided s (test 1 false) [] n a refl (done-decided s n a e))
-    go true false = later-decided s (test 2 false) (test 1 true ∷ []) s (answer.Refused refusal.Offset) refl (refused-decided s (test 1 true) [] refusal.Offset refl refl)
-    go false y = refused-decided s (test 2 true) (test 1 (not y) ∷ []) refusal.Width refl refl
+  accessed-decided : (w o : ℕ) (ts : List Test) (t : Turn) → DecidedTurn s ts t → DecidedTurn s (readTests w o ++ ts) (accessed s w o t)
+  unfolding numberOf
+  accessed-decided w o ts t d = then 2 _ refusal.Width _ (aligned w o) refl (then 1 ts refusal.Offset t (inside o) refl d)
 
-module _ (s : Timers) (w o : ℕ) where
-  pub reading-decided : DecidedTurn s (accessTests w o) (readingOf s w o)
+  pub reading-decided : (w o : ℕ) → DecidedTurn s (readTests w o) (readingOf s w o)
   unfolding readingOf numbersOf
-  reading-decided = accessed-decided s w o s (answer.Value (registerOf s o)) refl
+  reading-decided w o = accessed-decided w o [] _ (done-decided s s (answer.Value (registerOf s o)) refl)
 
-  pub writing-decided : (v : ℕ) → DecidedTurn s (accessTests w o) (writingOf s w o v)
+  pub writing-decided : (w o v : ℕ) → DecidedTurn s (writeTests w o v) (writingOf s w o v)
   unfolding writingOf numbersOf
-  writing-decided v = accessed-decided s w o (writtenOf s o v) answer.Done refl
+  writing-decided w o v = accessed-decided w o [] _ (done-decided s (writtenOf s o v) answer.Done refl)
+
+  advancing-decided : (n : ℕ) → DecidedTurn s [] (advancingOf s n)
+  unfolding advancingOf numbersOf
+  advancing-decided n = done-decided s (ticks n s) (answer.Fired (firings 0 n s) (firings 1 n s) (firings 2 n s)) refl
+
+  -- refusal 5 is tested first
+  pub decided : (k : Call) → DecidedTurn s (testsOf s k) (turnOf s k)
+  unfolding turnOf testsOf readOf writeOf advanceOf numberOf
+  decided (read w o) = then 5 (readTests w o) refusal.State (readingOf s w o) (wellFormed s) refl (reading-decided w o)
+  decided (write w o v) = then 5 (writeTests w o v) refusal.State (writingOf s w o v) (wellFormed s) refl (writing-decided w o v)
+  decided (advance n) = then 5 [] refusal.State (advancingOf s n) (wellFormed s) refl (advancing-decided n)

@@ -13,7 +13,8 @@ use Rattle.timer.specs.Alone.{after, stepped, alone, count, begun}
 use Rattle.timer.proofs.Alone.{stepped-is, alone-zero, alone-suc, count-zero, count-suc, begun-zero, begun-suc, after-suc}
 use Rattle.timers.specs.declared.Timers.{Timers}
 use Rattle.timers.specs.State.{at, isEnabled}
-use Rattle.timers.specs.Tick.{countedOf, matchesOf, firedOf, turnedOf, upTo, tick, firesIn, ticks, firings, first}
+use Rattle.timers.specs.Tick.{countedOf, matchesOf, firedOf, turnedOf, upTo, tick, firesIn, ticks, firings}
+use Rattle.timers.specs.Inner.{first}
 use Rattle.timers.proofs.Three.{at-same, at-other}
 
 -- the counter goes up by one

@@ -10,7 +10,8 @@ use native.Mathlib.Decide.{ℕ-discrete}
 use lib.Dec.{eqb, eqb·suc-zero}
 use borrow.Author.Tests.{ne-eqb}
 use Rattle.timers.specs.declared.Timers.{Timers}
-use Rattle.timers.specs.Tick.{ticks, firesIn, first}
+use Rattle.timers.specs.Tick.{ticks, firesIn}
+use Rattle.timers.specs.Inner.{first}
 use Rattle.timers.proofs.Portions.{ticks-add}
 
 -- the first firing over two portions: of the first one, or else of the second one, that many ticks later
@@ -61,31 +62,6 @@ first-kept i a b s n = first-add i a b s ∙ either-left a (first i a s) (first 
 -- where there is none in a ticks, it comes later
 pub first-later : (i a b : ℕ) (s : Timers) → first i a s ≡ 0 → first i (a + b) s ≡ 0 ⊎ a < first i (a + b) s
 first-later i a b s e = rw (first-add i a b s) (either-right a (first i a s) (first i b (ticks a s)) e)
-
--- of n ticks, where the first firing is not one of those after the a-th up to the x-th
-pub none-between : (i a x n : ℕ) (s : Timers) → a ≤ x → x ≤ n → first i n s ≤ a ⊎ x < first i n s → first i a s ≡ 0 → first i x s ≡ 0
-none-between i a x n s h l d z = go (ℕ-discrete (first i x s) 0)
-  where
-    to-x : a + (x - a) ≡ x
-    to-x = omega arith
-
-    to-n : x + (n - x) ≡ n
-    to-n = omega arith
-
-    kept : (first i x s ≡ 0 → ⊥) → first i n s ≡ first i x s
-    kept ne = ap (λ (k : ℕ). first i k s) (sym to-n) ∙ first-kept i x (n - x) s ne
-
-    later : first i x s ≡ 0 ⊎ a < first i x s
-    later = rw to-x at (first-later i a (x - a) s z)
-
-    against : (first i x s ≡ 0 → ⊥) → first i x s ≡ 0 ⊎ a < first i x s → first i n s ≤ a ⊎ x < first i n s → first i x s ≡ 0
-    against ne (inl e) d = e
-    against ne (inr g) (inl q) = absurd (omega (arith, kept ne))
-    against ne (inr g) (inr q) = absurd (omega (arith, kept ne, first-le i x s))
-
-    go : Dec (first i x s ≡ 0) → first i x s ≡ 0
-    go (yes e) = e
-    go (no ne) = against ne later d
 
 -- the next tick: a firing makes it, and nothing else
 pub fires-first : (i n : ℕ) (s : Timers) → firesIn (ticks n s) i ≡ true → first i (suc n) s ≡ 0 → ⊥

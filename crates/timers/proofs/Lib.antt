@@ -1,20 +1,22 @@
 -- The timer block's laws, for whoever stands above it: none of its definitions has to be opened.
 --
 -- Demands    what the paper asks, sentence by sentence
--- Sheet      B7 to B11
 --
 -- Turns      a tick turn by turn: turns-zero, turns-suc, turned-fires, turned-rests, turned-matches, turns-matches; fires-when, fires-on, fires-off;
 --            routes and pulses stay, statuses and wires only rise: turns-, tick-, ticks- with -pulses, -route, -risen, -drives;
---            firings-zero, firings-suc, first-zero, first-suc; ran-timers, ran-fired, ran-first, ran-counts, ran-firsts
+--            firings-zero, firings-suc, first-zero; ran-timers, ran-fired, ran-firsts
 -- Wires      risenOf (a firing moves no wire but by a pulse); counted- and fired- with -pulses, -route, -drives..; fired-risen, fired-risen-kept,
---            fired-drives-same, fired-drives-more, fired-matches, pulses-risen, reset-drives
--- First      first firings: first-le, first-kept, first-later, none-between, fires-first, first-fires, first-add
+--            fired-drives-same, fired-drives-more, fired-matches, pulses-risen
+-- First      first firings: first-le, first-kept, first-later, fires-first, first-fires, first-add
 -- Formed     formed-in, formed-out, at-formed, route-pin; kept by counted-, fired-, turned-, turns-, tick-, ticks-, written-, writing-formed,
 --            reset-formed; reading-timers, read-timers
--- Numbers    reading-, writing-, read-, write-, advance-number; exactly-0, -1, -2, -5; reading-, writing-refusing (same state, value 0, counts 0);
---            advance-timers, advance-fired
+-- Decided    what the tests decide of a call: reading-decided, writing-decided, decided
 -- Access     what each offset reads and writes; reading-, writing- with -width, -offset, -done
--- Portions   ticks-add, firings-add, ticks-total, firings-total
+-- Places     the offsets that there are: what each reads, what a write to it does; Unlisted
+-- ReadBack   a read after a write to the same offset
+-- Others     what a write leaves of the other registers
+-- Advance    what an advance answers: advance-ticked, advance-timers, advance-fired
+-- Portions   ticks-add, firings-add, total
 -- Runs       SameBut, ticks-alike, firings-alike
 -- Each       each timer goes by itself: tick-on, tick-off, ticks-zero, ticks-suc, ticks-enabled, ticks-counter, ticks-at, fired-enabled, ..-three
 -- Three      lists of three: at-three, three-same, of-three
@@ -28,8 +30,10 @@ pub mod Turns
 pub mod Portions
 pub mod First
 pub mod Formed
+pub mod Advance
 pub mod Runs
-pub mod Numbers
-pub mod Sheet
-pub mod Demands
 pub mod Decided
+pub mod Demands
+pub mod Places
+pub mod ReadBack
+pub mod Others

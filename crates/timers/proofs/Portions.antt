@@ -1,6 +1,6 @@
 -- Portions: a + b ticks are b ticks after a ticks, and the counts add up.
 use Prim.Native.Nat.{ℕ, zero, suc, _+_}
-use mathlib.Core.Path.{_≡_, refl, sym, ap, ap₂, _∙_}
+use mathlib.Core.Path.{_≡_, sym, ap, ap₂, _∙_}
 use mathlib.Core.Bool.{cond}
 use mathlib.Core.List.{List, [], _∷_}
 use native.Mathlib.Nat.{add-assoc, add-zero, add-suc}
@@ -25,21 +25,3 @@ firings-add m a (suc b) s =
 unfoldable pub total : List ℕ → ℕ
 total [] = 0
 total (n ∷ ns) = n + total ns
-
-unfoldable pub afterAll : List ℕ → Timers → Timers
-afterAll [] s = s
-afterAll (n ∷ ns) s = afterAll ns (ticks n s)
-
-unfoldable pub firingsAll : ℕ → List ℕ → Timers → ℕ
-firingsAll m [] s = 0
-firingsAll m (n ∷ ns) s = firings m n s + firingsAll m ns (ticks n s)
-
-pub ticks-total : (ns : List ℕ) (s : Timers) → afterAll ns s ≡ ticks (total ns) s
-unfolding total afterAll ticks
-ticks-total [] s = refl
-ticks-total (n ∷ ns) s = ticks-total ns (ticks n s) ∙ sym (ticks-add n (total ns) s)
-
-pub firings-total : (m : ℕ) (ns : List ℕ) (s : Timers) → firingsAll m ns s ≡ firings m (total ns) s
-unfolding total firingsAll firings
-firings-total m [] s = refl
-firings-total m (n ∷ ns) s = ap (λ (x : ℕ). firings m n s + x) (firings-total m ns (ticks n s)) ∙ sym (firings-add m n (total ns) s)

@@ -5,7 +5,7 @@ use mathlib.Core.Bool.{cond}
 use mathlib.Core.List.{List, [], _∷_}
 use native.Mathlib.Omega.{arith}
 use lib.Dec.{eqb}
-use lib.ListN.{getD, set, length}
+use lib.ListN.{getD, length}
 use borrow.Author.Tests.{eq-eqb, ne-eqb}
 use Rattle.timer.specs.declared.Timer.{Timer}
 use Rattle.timer.specs.State.{blank}
@@ -28,13 +28,6 @@ of-three (a ∷ b ∷ []) z e = absurd (omega arith)
 of-three (a ∷ b ∷ c ∷ []) z e = refl
 of-three (a ∷ b ∷ c ∷ d ∷ l) z e = absurd (omega arith)
 
--- a store into an array of three
-pub set-three : {A : Type 0} (l : List A) (z x : A) (m : ℕ) → length l ≡ 3 → m < 3 → set l m x ≡ three (λ i. cond (eqb i m) x (getD l i z))
-set-three l z x zero e h = ap (λ (k : List _). set k 0 x) (of-three l z e)
-set-three l z x (suc zero) e h = ap (λ (k : List _). set k 1 x) (of-three l z e)
-set-three l z x (suc (suc zero)) e h = ap (λ (k : List _). set k 2 x) (of-three l z e)
-set-three l z x (suc (suc (suc m))) e h = absurd (omega arith)
-
 module _ (s : Timers) (m : ℕ) (x : Timer) where
   pub at-with : (j : ℕ) → j < 3 → at (withTimer s m x) j ≡ cond (eqb j m) x (at s j)
   at-with j l = at-three (λ i. cond (eqb i m) x (at s i)) blank j l
@@ -50,15 +43,6 @@ module _ (s : Timers) (m : ℕ) (x : Timer) where
 -- a block is its three timers, and its numbers
 pub eta : (s : Timers) → length (s .timer) ≡ 3 → s ≡ withTimers s (at s)
 eta s e = ap (withList s) (of-three (s .timer) blank e)
-
-pub stored : (s : Timers) (m : ℕ) (x : Timer) → length (s .timer) ≡ 3 → m < 3 → withList s (set (s .timer) m x) ≡ withTimer s m x
-stored s m x e l = ap (withList s) (set-three (s .timer) blank x m e l)
-
-pub not-stored : (s : Timers) (m : ℕ) (x : Timer) → length (s .timer) ≡ 3 → 3 ≤ m → s ≡ withTimer s m x
-not-stored s m x e l =
-    eta s e
-    ∙ ap (withList s)
-    (three-same (at s) (λ i. cond (eqb i m) x (at s i)) (λ j h. rw (ne-eqb j m (λ q. omega arith))))
 
 -- past the last there is none
 pub beyond : (l : List Timer) (m : ℕ) → length l ≡ 3 → 3 ≤ m → getD l m blank ≡ blank

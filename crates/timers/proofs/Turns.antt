@@ -3,11 +3,11 @@ use Prim.Native.Nat.{ℕ, zero, suc, _+_, _<_, _≤_}
 use mathlib.Core.Path.{_≡_, refl, _∙_}
 use mathlib.Core.Bool.{Bool, true, false, cond}
 use native.Mathlib.Omega.{arith}
-use lib.Dec.{eqb}
 use lib.ListN.{getD}
 use Rattle.timers.specs.declared.Timers.{Timers}
 use Rattle.timers.specs.State.{three, isEnabled}
-use Rattle.timers.specs.Tick.{countedOf, matchesOf, firedOf, turnedOf, upTo, tick, firesIn, ticks, firings, first, ranOf, drivesOf, pulsesOf, raisesOf, routeOf}
+use Rattle.timers.specs.Tick.{countedOf, matchesOf, firedOf, turnedOf, upTo, tick, firesIn, ticks, firings, drivesOf, pulsesOf, routeOf}
+use Rattle.timers.specs.Inner.{first, ranOf, raisesOf}
 use Rattle.timers.proofs.Three.{at-three}
 use Rattle.timers.proofs.Each.{by-turn}
 use Rattle.timers.proofs.Wires.{risenOf, fired-matches, counted-pulses, counted-raises, counted-route, counted-risen, counted-drives, fired-pulses, fired-raises, fired-route, fired-risen-kept, fired-drives-more}
@@ -164,10 +164,6 @@ module _ (m : ℕ) (s : Timers) where
   unfolding first
   first-zero = refl
 
-  pub first-suc : (n : ℕ) → first m (suc n) s ≡ cond (eqb (first m n s) 0) (cond (firesIn (ticks n s) m) (suc n) 0) (first m n s)
-  unfolding first
-  first-suc n = refl
-
 -- ---- what `ran` gives
 
 module _ (s : Timers) (n : ℕ) where
@@ -179,14 +175,6 @@ module _ (s : Timers) (n : ℕ) where
   unfolding ranOf
   ran-fired m l = at-three (λ j. firings j n s) 0 m l
 
-  pub ran-first : (m : ℕ) → m < 3 → getD (ranOf s n .first) m 0 ≡ first m n s
-  unfolding ranOf
-  ran-first m l = at-three (λ j. first j n s) 0 m l
-
   pub ran-firsts : ranOf s n .first ≡ three (λ m. first m n s)
   unfolding ranOf
   ran-firsts = refl
-
-  pub ran-counts : ranOf s n .fired ≡ three (λ m. firings m n s)
-  unfolding ranOf
-  ran-counts = refl

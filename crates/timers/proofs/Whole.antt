@@ -11,7 +11,8 @@ use Rattle.timer.proofs.Alone.{run-is}
 use Rattle.timers.specs.declared.Timers.{Timers}
 use Rattle.timers.specs.declared.Ran.{Ran}
 use Rattle.timers.specs.State.{three, at, isEnabled, withCounter, withEnabled, withList}
-use Rattle.timers.specs.Tick.{ticks, firings, first, ran, ranOf}
+use Rattle.timers.specs.Tick.{ticks, firings}
+use Rattle.timers.specs.Inner.{first, ran, ranOf}
 use Rattle.timers.proofs.Three.{three-same, eta}
 use Rattle.timers.proofs.Each.{ticks-off, firings-off, first-off, ticks-enabled, ticks-three, ticks-counter, ticks-at, firings-on, first-on}
 

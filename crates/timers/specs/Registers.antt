@@ -59,10 +59,6 @@ registerOf s offset =
 abbrev pub clearedBy : ℕ → Timers → ℕ → Timer
 clearedBy v s m = cond (flag (bit m v)) (clearedOf (at s m)) (at s m)
 
--- one timer after it, `hit` being whether it is the one: only inner functions cite it
-unfoldable pub timerPut : Timer → Bool → ℕ → ℕ → Timer
-timerPut t hit place v = cond hit (cond (eqb place 0) (configuredOf t v) (cond (eqb place 8) (comparedOf t v) t)) t
-
 unfoldable pub timerWritten : Timers → ℕ → ℕ → Timers
 timerWritten s offset v =
     let n = numbered offset in

@@ -1,98 +1,74 @@
--- The bench sheet's lines B7 to B11, from reset, by register calls alone: one table, whose one statement is proofs/Sheet.antt's.
+-- The bench sheet's lines of the timers, B7 to B11, from reset, as one table with one statement.
 use Prim.Native.Nat.{ℕ, _-_, _^_}
-use mathlib.Core.List.{List, [], _∷_}
-use mathlib.Core.Bool.{Bool, true, _&&_}
-use lib.Dec.{eqb}
-use lib.ListN.{getD}
-use Rattle.answers.specs.declared.Numbers.{Numbers}
-use Rattle.answers.specs.Numbers.{numbersOf}
+use mathlib.Core.Path.{_≡_, refl}
+use mathlib.Core.List.{List, [], _∷_, map}
+use Rattle.answers.specs.declared.Answer.{Answer}
+use Rattle.answers.specs.Sheet.{ok, value, fired}
+use Rattle.timer.specs.State.{resetTimer}
+use Rattle.timer.specs.Formed.{flagsFit, narrowFits, timerFormed}
+use Rattle.timer.specs.Registers.{configurationOf, configuredOf, comparedOf, clearedOf}
+use Rattle.timer.specs.Tick.{meets, firing}
 use Rattle.timers.specs.declared.Timers.{Timers}
-use Rattle.timers.specs.declared.Turn.{Turn}
 use Rattle.timers.specs.State.{resetTimers}
-use Rattle.timers.specs.Call.{readOf, writeOf, advanceOf}
+use Rattle.timers.specs.Formed.{wellFormed}
+use Rattle.timers.specs.Registers.{statusOf, timerRegister, registerOf, timerWritten, writtenOf}
+use Rattle.timers.specs.Tick.{countedOf, matchesOf, firedOf, turnedOf, upTo, tick, firesIn, ticks, firings}
+use Rattle.timers.specs.Call.{readingOf, writingOf, advancingOf, readOf, writeOf, advanceOf}
+use Rattle.timers.specs.Calls.{Call, read, write, advance, turnOf}
 
--- a write of the set-up
-pub record Write : Type 0 where
-  pub offset : ℕ
-  pub value : ℕ
-
-abbrev pub write : ℕ → ℕ → Write
-write o v = record { offset = o; value = v }
-
--- an advance, the three counts that it gives, and what comparator 0 and the counter read after it
-pub record Advance : Type 0 where
-  pub ticked : ℕ
-  pub fired0 : ℕ
-  pub fired1 : ℕ
-  pub fired2 : ℕ
-  pub comparator : ℕ
-  pub counter : ℕ
-
-abbrev pub advance : ℕ → ℕ → ℕ → ℕ → ℕ → ℕ → Advance
-advance n a b c k x = record { ticked = n; fired0 = a; fired1 = b; fired2 = c; comparator = k; counter = x }
+-- what the calls answer, one after another
+unfoldable pub run : Timers → List Call → List Answer
+run s [] = []
+run s (k ∷ ks) = turnOf s k .answer ∷ run (turnOf s k .timers) ks
 
 pub record Line : Type 0 where
-  pub writes : List Write
-  pub advances : List Advance
+  pub calls : List Call
+  pub answers : List Answer
 
-abbrev pub line : List Write → List Advance → Line
-line w a = record { writes = w; advances = a }
+abbrev line : List Call → List Answer → Line
+line c a = record { calls = c; answers = a }
 
--- ---- the sheet. Configuration 0x48: periodic, bit 6; 0x148: in 32-bit mode too
+-- ---- timer 0's registers
 
-abbrev pub sheet : List Line
+abbrev put : ℕ → ℕ → Call
+put offset v = write 8 offset v
+
+abbrev enable : Call
+enable = put 0x010 1
+
+abbrev setCounter : ℕ → Call
+setCounter v = put 0x0F0 v
+
+-- 0x48: periodic, bit 6; 0x148: in 32-bit mode too
+abbrev configure : ℕ → Call
+configure v = put 0x100 v
+
+abbrev compare : ℕ → Call
+compare v = put 0x108 v
+
+abbrev comparator : Call
+comparator = read 8 0x108
+
+abbrev counter : Call
+counter = read 8 0x0F0
+
+pub sheet : List Line
 sheet =
     -- B7 comparator 5, advance 4: no firing; advance 1 more: one
-    line (write 0x108 5 ∷ []) (advance 4 0 0 0 5 4 ∷ advance 1 1 0 0 5 5 ∷ [])
+    line (compare 5 ∷ enable ∷ advance 4 ∷ advance 1 ∷ []) (ok ∷ ok ∷ fired 0 0 0 ∷ fired 1 0 0 ∷ [])
     -- B8 periodic, bit 6, write 10, write 4, advance 20 from 0: three firings, comparator 22
-    ∷ line (write 0x100 0x48 ∷ write 0x108 10 ∷ write 0x108 4 ∷ []) (advance 20 3 0 0 22 20 ∷ [])
-    -- B9 counter 2^64 - 2, comparator 1, advance 3: one firing, counter 1; timers 1 and 2 fire once each
-    ∷ line (write 0x0F0 (2 ^ 64 - 2) ∷ write 0x108 1 ∷ []) (advance 3 1 1 1 1 1 ∷ [])
-    -- B10 32-bit periodic, comparator 0xFFFFFFFF, period 2, counter 0xFFFFFFFE: advance 1 fires, comparator 1; advance 2 fires again, comparator 3
-    ∷ line (write 0x100 0x148 ∷ write 0x108 0xFFFFFFFF ∷ write 0x108 2 ∷ write 0x0F0 0xFFFFFFFE ∷ [])
-    (advance 1 1 0 0 1 0xFFFFFFFF ∷ advance 2 1 0 0 3 0x100000001 ∷ [])
+    ∷ line (configure 0x48 ∷ compare 10 ∷ compare 4 ∷ enable ∷ advance 20 ∷ comparator ∷ []) (ok ∷ ok ∷ ok ∷ ok ∷ fired 3 0 0 ∷ value 22 ∷ [])
+    -- B9 counter 2^64 - 2, comparator 1, advance 3: one firing, counter 1; timers 1 and 2, untouched since reset, fire once each
+    ∷ line (setCounter (2 ^ 64 - 2) ∷ compare 1 ∷ enable ∷ advance 3 ∷ counter ∷ []) (ok ∷ ok ∷ ok ∷ fired 1 1 1 ∷ value 1 ∷ [])
+    -- B10 32-bit periodic, comparator 0xFFFFFFFF, period 2, counter 0xFFFFFFFE: advance 1 fires, comparator 1; advance 2 fires again,
+    -- comparator 3
+    ∷ line
+    (configure 0x148 ∷ compare 0xFFFFFFFF ∷ compare 2 ∷ setCounter 0xFFFFFFFE ∷ enable ∷ advance 1 ∷ comparator ∷ advance 2 ∷ comparator ∷ [])
+    (ok ∷ ok ∷ ok ∷ ok ∷ ok ∷ fired 1 0 0 ∷ value 1 ∷ fired 1 0 0 ∷ value 3 ∷ [])
     -- B11 comparator and period 1, advance 7: seven firings, comparator 8
-    ∷ line (write 0x100 0x48 ∷ write 0x108 1 ∷ []) (advance 7 7 0 0 8 7 ∷ [])
+    ∷ line (configure 0x48 ∷ compare 1 ∷ enable ∷ advance 7 ∷ comparator ∷ []) (ok ∷ ok ∷ ok ∷ fired 7 0 0 ∷ value 8 ∷ [])
     ∷ []
 
--- ---- a line holds
-
-abbrev pub numbers : Turn → Numbers
-numbers r = numbersOf (r .answer)
-
--- no write is refused
-unfoldable pub allDone : List Write → Timers → Bool
-allDone [] s = true
-allDone (w ∷ ws) s = eqb (numbers (writeOf s 8 (w .offset) (w .value)) .number) 0 && allDone ws (writeOf s 8 (w .offset) (w .value) .timers)
-
--- the state after them
-unfoldable pub setUp : List Write → Timers → Timers
-setUp [] s = s
-setUp (w ∷ ws) s = setUp ws (writeOf s 8 (w .offset) (w .value) .timers)
-
-abbrev pub shows : Timers → ℕ → ℕ → Bool
-shows s offset value = eqb (numbers (readOf s 8 offset) .value) value
-
-unfoldable pub gives : Turn → Advance → Bool
-gives r a =
-    eqb (numbers r .number) 0
-    && (eqb (getD (numbers r .fired) 0 0) (a .fired0)
-    && (eqb (getD (numbers r .fired) 1 0) (a .fired1)
-    && (eqb (getD (numbers r .fired) 2 0) (a .fired2)
-    && (shows (r .timers) 0x108 (a .comparator) && shows (r .timers) 0x0F0 (a .counter)))))
-
-unfoldable pub allGive : List Advance → Timers → Bool
-allGive [] s = true
-allGive (a ∷ rest) s = gives (advanceOf s (a .ticked)) a && allGive rest (advanceOf s (a .ticked) .timers)
-
--- the block enabled after the set-up
-abbrev pub enabling : List Write → List Write
-enabling [] = write 0x010 1 ∷ []
-enabling (w ∷ ws) = w ∷ enabling ws
-
-unfoldable pub holds : Line → Bool
-holds l = allDone (enabling (l .writes)) resetTimers && allGive (l .advances) (setUp (enabling (l .writes)) resetTimers)
-
-unfoldable pub allHold : List Line → Bool
-allHold [] = true
-allHold (l ∷ ls) = holds l && allHold ls
+pub bench : map (λ (l : Line). run resetTimers (l .calls)) sheet ≡ map (λ (l : Line). l .answers) sheet
+unfolding run sheet turnOf resetTimer flagsFit narrowFits timerFormed configurationOf configuredOf comparedOf clearedOf meets firing resetTimers wellFormed statusOf timerRegister registerOf timerWritten writtenOf countedOf matchesOf firedOf turnedOf upTo tick firesIn ticks firings readingOf writingOf advancingOf readOf writeOf advanceOf
+bench = refl

@@ -1,11 +1,9 @@
--- "One tick", literally; many ticks; how often a timer fires in them, and when first; the timers' part of the wire rule.
+-- "One tick", literally; many ticks; how often a timer fires in them; the timers' part of the wire rule.
 use Prim.Native.Nat.{ℕ, zero, suc, _+_, _%_, _^_}
 use mathlib.Core.Bool.{Bool, cond, _&&_, _||_}
-use lib.Dec.{eqb}
-use Rattle.timer.specs.Tick.{meets, firing, pulsing, raising, driving, holding}
+use Rattle.timer.specs.Tick.{meets, firing, pulsing, driving}
 use Rattle.timers.specs.declared.Timers.{Timers}
-use Rattle.timers.specs.declared.Ran.{Ran}
-use Rattle.timers.specs.State.{three, at, isEnabled, withCounter, withTimer}
+use Rattle.timers.specs.State.{at, isEnabled, withCounter, withTimer}
 
 -- ---- the steps of a tick
 
@@ -50,34 +48,15 @@ unfoldable pub firings : ℕ → ℕ → Timers → ℕ
 firings m zero s = 0
 firings m (suc n) s = firings m n s + cond (firesIn (ticks n s) m) 1 0
 
--- the number, from 1, of the tick at which timer m first fires in n ticks; 0 if it does not
-unfoldable pub first : ℕ → ℕ → Timers → ℕ
-first m zero s = 0
-first m (suc n) s = cond (eqb (first m n s) 0) (cond (firesIn (ticks n s) m) (suc n) 0) (first m n s)
-
-abbrev pub ran : Timers → (ℕ → ℕ) → (ℕ → ℕ) → Ran
-ran s fired first = record { timers = s; fired = three fired; first = three first }
-
-unfoldable pub ranOf : Timers → ℕ → Ran
-ranOf s n = ran (ticks n s) (λ m. firings m n s) (λ m. first m n s)
-
 -- ---- the wire rule, the timers' part
 
 -- a pin's wire is high if some timer routed there has level type, interrupt enable and status, with the block enabled
 unfoldable pub drivesOf : Timers → ℕ → Bool
 drivesOf s pin = isEnabled s && (driving (at s 0) pin || (driving (at s 1) pin || driving (at s 2) pin))
 
--- the pin that timer m drives, or 24: only inner functions cite it
-unfoldable pub drivenOf : Timers → ℕ → ℕ
-drivenOf s m = cond (isEnabled s && holding (at s m)) (at s m .route) 24
-
 -- a firing edge timer with its interrupt enabled raises the wire of its pin and drops it again
 unfoldable pub pulsesOf : Timers → ℕ → Bool
 pulsesOf s m = pulsing (at s m)
-
--- a firing level timer with its interrupt enabled holds the wire of its pin high
-unfoldable pub raisesOf : Timers → ℕ → Bool
-raisesOf s m = raising (at s m)
 
 -- the pin that timer m is routed to
 unfoldable pub routeOf : Timers → ℕ → ℕ

@@ -6,9 +6,10 @@ ghost use mathlib.Core.Path.{_≡_};
 ghost use mathlib.Core.Bool.{cond};
 ghost use Rattle.timer.specs.State.{flag};
 ghost use Rattle.timer.specs.Registers.{clearedOf};
-ghost use Rattle.timers.specs.State.{at, withTimer, resetTimers};
+ghost use Rattle.timers.specs.State.{at, resetTimers};
 ghost use Rattle.timers.specs.Formed.{wellFormed};
-ghost use Rattle.timers.specs.Registers.{timerRegister, timerPut};
+ghost use Rattle.timers.specs.Registers.{timerRegister};
+ghost use Rattle.timers.specs.Inner.{timerPut};
 use answers::Answer;
 pub use timer::Timer;
 
@@ -36,11 +37,11 @@ pub struct Ran {
 impl Timers {
     // ---- the window's offsets
 
-    // read only
+    // capabilities, read only
     pub const CAPABILITIES: u64 = 0x000;
-
+    // configuration: bit 0 enable, writable; other bits read 0
     pub const CONFIGURATION: u64 = 0x010;
-    // bit n is timer n's status; writing 1 to it clears it
+    // bit n is timer n's status; writing 1 to it clears it; other bits read 0
     pub const STATUS: u64 = 0x020;
     // the main counter; a write while enabled is ignored
     pub const COUNTER: u64 = 0x0F0;
@@ -62,10 +63,14 @@ impl Timers {
     // configuration: bit 0 enable
     pub const ENABLE: u32 = 0;
 
-    pub const COUNT: usize = 3;
+    // ---- ranges
 
+    // three timers
+    pub const COUNT: usize = 3;
     // every access is so many bytes wide, and its offset a multiple of it
     pub const WIDTH: u64 = 8;
+    // in the place of a pin, where a timer drives none
+    pub const NO_PIN: u16 = 24;
 
     // ---- the state
 
@@ -98,18 +103,6 @@ impl Timers {
         }
         let t = self.timer;
         t[m]
-    }
-
-    // Another timer m.
-    fn with(self, m: usize, t: Timer) -> Timers
-        ensures { λ r. ⌜ r ≡ withTimer self m t ⌝ }
-    {
-        if Timers::COUNT <= m {
-            return self;
-        }
-        let mut next = self;
-        next.timer[m] = t;
-        next
     }
 }
 

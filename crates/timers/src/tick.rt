@@ -1,35 +1,11 @@
-// One tick of the block in its pieces, the timers' part of the wire rule, and many ticks at once.
+// The timers' part of the wire rule, and many ticks at once.
 ghost use mathlib.Core.Path.{_≡_};
-ghost use Rattle.timers.specs.Tick.{countedOf, matchesOf, firedOf, drivesOf, drivenOf, pulsesOf, raisesOf, routeOf, ranOf};
+ghost use Rattle.timers.specs.Tick.{drivesOf, pulsesOf, routeOf};
+ghost use Rattle.timers.specs.Inner.{drivenOf, raisesOf, ranOf};
 use crate::Ran;
 use crate::Timers;
 
 impl Timers {
-    // ---- one tick, in its pieces
-
-    // The counter goes up by one.
-    pub fn counted(self) -> Timers
-        ensures { λ r. ⌜ r ≡ countedOf self ⌝ }
-    {
-        let mut next = self;
-        next.counter = std::num::wrapping_add_u64(self.counter, 1);
-        next
-    }
-
-    // Timer m fires if counter and comparator are equal.
-    pub fn matches(self, m: usize) -> bool
-        ensures { λ r. ⌜ r ≡ matchesOf self m ⌝ }
-    {
-        self.at(m).matches(self.counter)
-    }
-
-    // The firing of timer m.
-    pub fn fired(self, m: usize) -> Timers
-        ensures { λ r. ⌜ r ≡ firedOf self m ⌝ }
-    {
-        self.with(m, self.at(m).fired())
-    }
-
     // ---- the timers' part of the wire rule
 
     // The block is enabled, and some timer routed to the pin has level type, interrupt enable and status.
@@ -43,7 +19,7 @@ impl Timers {
         (self.enabled == 1) & (t0.drives(pin) | (t1.drives(pin) | t2.drives(pin)))
     }
 
-    // The pin whose wire timer m holds high, or 24.
+    // The pin whose wire timer m holds high, or none.
     pub fn driven(self, m: usize) -> u16
         ensures { λ r. ⌜ r ≡ drivenOf self m ⌝ }
     {
@@ -51,7 +27,7 @@ impl Timers {
         if (self.enabled == 1) & t.holds() {
             t.route
         } else {
-            24
+            Timers::NO_PIN
         }
     }
 

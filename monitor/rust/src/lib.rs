@@ -3,7 +3,7 @@
 //!
 //! A [`Board`] is a plain value of 288 bytes that the monitor owns. Each method lends it to the proved model, which changes
 //! it where it lies; nothing else is kept anywhere. `&mut self` is what the model asks of its caller: a valid, aligned
-//! address that nobody else uses during the call.
+//! address that nobody else uses during the call. A read changes nothing, and takes `&self`.
 //!
 //! ```
 //! use nataqvoju::{Board, Window, INDEX, DATA};
@@ -27,6 +27,9 @@ use std::mem::{align_of, size_of, transmute};
 use std::ptr::addr_of;
 
 /// One timer. Flags are 0 or 1; any other value is a board that is not well formed.
+///
+/// A level-type timer's line is active high: with its interrupt enabled and the block enabled, it holds the wire of its pin
+/// high as long as its status is 1.
 #[repr(C)]
 #[derive(Clone, Copy, Debug, PartialEq, Eq, Hash)]
 pub struct Timer {
@@ -181,7 +184,7 @@ impl fmt::Display for Refusal {
 
 impl std::error::Error for Refusal {}
 
-/// What a delivery step gives.
+/// What a delivery step gives. The pin's trigger mode is [`Board::is_level`].
 #[derive(Clone, Copy, Debug, PartialEq, Eq, Hash)]
 pub struct Interrupt {
     /// The lowest eligible pin.
@@ -196,7 +199,7 @@ pub struct Interrupt {
 
 extern "C" {
     fn nataqvoju_reset(board: &mut Board) -> Numbers;
-    fn nataqvoju_read(board: &mut Board, window: u64, width: u64, offset: u64) -> Numbers;
+    fn nataqvoju_read(board: &Board, window: u64, width: u64, offset: u64) -> Numbers;
     fn nataqvoju_write(board: &mut Board, window: u64, width: u64, offset: u64, value: u64) -> Numbers;
     fn nataqvoju_wire(board: &mut Board, pin: u64, level: u64) -> Numbers;
     fn nataqvoju_end(board: &mut Board, vector: u8) -> Numbers;
@@ -219,8 +222,8 @@ impl Numbers {
 }
 
 // SAFETY of every `unsafe` call below: the declarations above are those of `monitor/nataqvoju.h`; the layouts are checked at
-// the end of this file; every byte pattern is a `Board` and a `Numbers`; `&mut self` is valid, aligned and not aliased; and
-// the model reads and writes nothing else.
+// the end of this file; every byte pattern is a `Board` and a `Numbers`; `&mut self` is valid, aligned and not aliased, `&self`
+// is valid, aligned and not written to meanwhile; and the model reads and writes nothing else.
 impl Board {
     /// How many bytes a board has.
     pub const SIZE: usize = 288;
@@ -232,13 +235,14 @@ impl Board {
         board
     }
 
-    /// The reset state, whatever was there.
+    /// The reset state, whatever was there. Outside wires are low after it: a monitor whose lines stay high through a reset
+    /// wires them again.
     pub fn reset(&mut self) {
         unsafe { nataqvoju_reset(self) };
     }
 
     /// A register read.
-    pub fn read(&mut self, window: Window, width: u64, offset: u64) -> Result<u64, Refusal> {
+    pub fn read(&self, window: Window, width: u64, offset: u64) -> Result<u64, Refusal> {
         let numbers = unsafe { nataqvoju_read(self, window.0, width, offset) };
         Ok(numbers.done()?.value)
     }
@@ -281,13 +285,65 @@ impl Board {
         }))
     }
 
+    /// The trigger mode of a pin, which the message of its delivery has to name: whether it is level. This is bit 15 of the
+    /// pin's low word, which a delivery step leaves as it is. A pin above 23 is not.
+    ///
+    /// ```
+    /// use nataqvoju::{Board, Window, DATA, INDEX};
+    ///
+    /// let mut board = Board::new();
+    /// board.write(Window::CONTROLLER, 4, INDEX, 0x10 + 2 * 9)?;
+    /// board.write(Window::CONTROLLER, 4, DATA, 0x8029)?;
+    /// board.wire(9, 1)?;
+    /// let interrupt = board.deliver()?.expect("pin 9 is level and asserted");
+    /// assert!(board.is_level(interrupt.pin));
+    /// assert!(!board.is_level(8) && !board.is_level(24));
+    /// # Ok::<(), nataqvoju::Refusal>(())
+    /// ```
+    pub fn is_level(&self, pin: u8) -> bool {
+        self.controller.entries.low.get(usize::from(pin)).is_some_and(|low| low >> 15 & 1 == 1)
+    }
+
+    /// In how many ticks a timer fires next: an advance by fewer fires none, by so many exactly the timers that are due, each
+    /// once. It may be more than one advance takes. `None` if none fires, since the block is disabled, or only in 2^64 ticks.
+    ///
+    /// For each timer that is (comparator - counter) modulo 2^64, or 2^32 in 32-bit mode, where 0 stands for a whole turn.
+    ///
+    /// ```
+    /// use nataqvoju::{Board, Window, COMPARATOR, CONFIGURATION, TIMER};
+    ///
+    /// let mut board = Board::new();
+    /// board.write(Window::TIMERS, 8, TIMER + COMPARATOR, 1000)?;
+    /// assert_eq!(board.next_firing(), None);
+    /// board.write(Window::TIMERS, 8, CONFIGURATION, 1)?;
+    /// assert_eq!(board.next_firing(), Some(1000));
+    /// assert_eq!(board.advance(999)?, [0, 0, 0]);
+    /// assert_eq!(board.advance(1)?, [1, 0, 0]);
+    /// # Ok::<(), nataqvoju::Refusal>(())
+    /// ```
+    pub fn next_firing(&self) -> Option<u64> {
+        if self.timers.enabled == 0 {
+            return None;
+        }
+        // what is compared is one less: it has no case for a whole turn
+        let before = |timer: &Timer| {
+            let ticks = timer.comparator.wrapping_sub(self.timers.counter).wrapping_sub(1);
+            if timer.narrow == 0 {
+                ticks
+            } else {
+                ticks & u64::from(u32::MAX)
+            }
+        };
+        self.timers.timer.iter().map(before).min()?.checked_add(1)
+    }
+
     /// The board as bytes, to save it.
     pub fn to_bytes(&self) -> [u8; Board::SIZE] {
         // SAFETY: no byte of a board is padding.
         unsafe { transmute::<Board, [u8; Board::SIZE]>(*self) }
     }
 
-    /// A board out of bytes. Any bytes will do: those that are no well-formed board are refused by the first call.
+    /// A board out of bytes. Any bytes will do: those that are no well-formed board are refused by every call but a reset.
     pub fn from_bytes(bytes: [u8; Board::SIZE]) -> Board {
         // SAFETY: every byte pattern is a board.
         unsafe { transmute::<[u8; Board::SIZE], Board>(bytes) }

@@ -8,7 +8,7 @@ mod entry {
 
     extern "C" {
         pub fn nataqvoju_reset(board: *mut Board) -> Reply;
-        pub fn nataqvoju_read(board: *mut Board, window: u64, width: u64, offset: u64) -> Reply;
+        pub fn nataqvoju_read(board: *const Board, window: u64, width: u64, offset: u64) -> Reply;
         pub fn nataqvoju_write(
             board: *mut Board,
             window: u64,
@@ -31,7 +31,7 @@ pub fn reset(board: &mut Board) -> Reply {
     unsafe { entry::nataqvoju_reset(board) }
 }
 
-/// Reads a register.
+/// Reads a register. The board may be written, so that a read that does it shows.
 pub fn read(board: &mut Board, window: u64, width: u64, offset: u64) -> Reply {
     unsafe { entry::nataqvoju_read(board, window, width, offset) }
 }

@@ -1,6 +1,7 @@
 //! What happens in a log: interesting events, counted, so that a profile that never reaches one
 //! it is meant to reach shows up.
 
+mod registers;
 mod ticks;
 mod watch;
 
@@ -40,16 +41,30 @@ events! {
     WireEdge: "edge by an outside wire", "vatc";
     WireEdgeActiveLow: "edge by a falling outside wire, active low", "vatc";
     WireMasked: "edge ignored on a masked pin", "vtc";
+    WireSame: "outside wire set to the level that it has", "vatc";
     WireHidden: "outside wire hidden behind a level timer", "vt";
     OtherModeHolds: "edge held on a pin with another delivery mode", "vtc";
     PulseAtRaise: "pulse: edge held at the raise", "vat";
     PulseAtDrop: "pulse: edge held at the drop, active low", "vat";
     PulseHidden: "pulse hidden by a high wire", "vat";
+    PulseHiddenActiveLow: "pulse hidden by a high wire, active low", "vat";
     PulseMasked: "pulse on a masked pin", "vt";
+    PulseOnLevel: "pulse on a level entry", "vat";
     LevelRise: "level timer: edge at the rise", "vat";
     LevelRiseActiveLow: "level timer: rise without an edge, active low", "vat";
+    LevelAgain: "level timer fires with its status set", "vat";
     LevelSilent: "level timer fires with its interrupt off", "vat";
     SameTick: "two timers fire in one tick", "vat";
+    MixedWidths: "32-bit and 64-bit timer fire in one tick", "vat";
+    SamePin: "first firings of two timers: same tick, same pin", "vat";
+    SamePinActiveLow: "first firings of two timers: the same, active low", "vat";
+    SamePinThree: "first firings of three timers: same tick, same pin", "vat";
+    PulseThenPulse: "one tick: two pulses on one pin", "vat";
+    PulseThenRise: "one tick: pulse, then level rise, active low", "vat";
+    RiseThenPulse: "one tick: level rise, then pulse, active low", "vat";
+    PulseThenHidden: "one advance: pulse seen, a later one hidden", "vat";
+    FirstAtEnd: "first firing at the last tick of an advance", "vat";
+    FirstPastEnd: "first firing one tick past an advance", "vat";
     OrderMatters: "order of the timers in one tick matters", "vat";
     NarrowWrap: "32-bit timer fires past the wrap at 2^32", "vat";
     WideWrap: "64-bit timer fires past the wrap at 2^64", "vat";
@@ -71,6 +86,14 @@ events! {
     EdgeByDisable: "edge by disabling the block, active low", "vt";
     EdgeByStatus: "edge by clearing a status, active low", "vt";
     EdgeByConfiguration: "edge by a configuration write", "vt";
+    EdgeByInterruptOn: "edge by turning an interrupt on", "vt";
+    EdgeByInterruptOff: "edge by turning an interrupt off, active low", "vt";
+    EdgeByRouteOn: "edge by moving a route to the pin", "vt";
+    EdgeByRouteAway: "edge by moving a route away, active low", "vt";
+    EdgeByEdgeType: "edge by writing edge type, active low", "vt";
+    StatusHidden: "status cleared with the wire kept high, active low", "vt";
+    StatusDropsSeveral: "status write that drops several wires", "vt";
+    EnableMovesSeveral: "enable write that moves several wires", "vt";
     RewrittenHigh: "configuration rewritten while the wire stays high", "vt";
     MovedWire: "route moved: one wire falls and another rises", "vt";
     BitSix: "comparator write with bit 6", "vat";
@@ -102,6 +125,7 @@ events! {
     DeliverPastMode: "delivery past a lower pin with another mode", "vc";
     DeliverEdgeWithIrr: "edge delivered in spite of remote IRR", "vc";
     DeliverBesideIrr: "level delivered while another pin waits for its end", "vac";
+    DeliverEdgeBesideIrr: "edge delivered while a level pin waits for its end", "vac";
     EndSeveral: "end of interrupt frees several pins", "vac";
     EndOne: "end of interrupt frees one pin", "vac";
     EndNothing: "end of interrupt frees nothing", "vac";

@@ -1,17 +1,17 @@
-//! Follows a log record by record; advances are in [`super::ticks`].
+//! Follows a log record by record; advances are in [`super::ticks`], timer register writes in
+//! [`super::registers`].
 
 use super::{Counts, Event};
 use crate::board::{Board, CONTROLLER, TIMER_BLOCK};
 use crate::controller::{Controller, DATA};
 use crate::log::Record;
 use crate::pin::{Pin, PINS};
-use crate::timer::bits;
-use crate::timers::{comparator_of, configuration_of, COUNTER, ENABLE, STATUS, TIMERS};
+use crate::timers::{configuration_of, TIMERS};
 
 /// Follows one log.
 pub(super) struct Watcher<'counts> {
     pub(super) counts: &'counts mut Counts,
-    board: Board,
+    pub(super) board: Board,
     /// The timer fired, and its comparator wasn't written since.
     pub(super) fired: [bool; TIMERS],
 }
@@ -115,69 +115,6 @@ impl Watcher<'_> {
         counts.note_if(back, Event::IrrBack);
     }
 
-    fn watch_timer_write(&mut self, before: &Board, offset: u64, value: u64) {
-        let edge = new_edges(before, &self.board);
-        match offset {
-            ENABLE => self.counts.note_if(
-                edge,
-                if self.board.timers.enabled { Event::EdgeByEnable } else { Event::EdgeByDisable },
-            ),
-            STATUS => self.counts.note_if(edge, Event::EdgeByStatus),
-            COUNTER => {
-                let enabled = before.timers.enabled;
-                let event = if enabled { Event::CounterIgnored } else { Event::CounterTaken };
-                self.counts.note(event);
-                let equal = self.board.timers.timer.iter().any(|timer| timer.matches(value));
-                self.counts.note_if(!enabled && equal, Event::MadeEqual);
-            }
-            _ => {}
-        }
-        for n in 0..TIMERS {
-            if offset == configuration_of(n) {
-                self.watch_configuration(before, n, value, edge);
-            } else if offset == comparator_of(n) {
-                self.watch_comparator(before, n, value);
-            }
-        }
-    }
-
-    fn watch_configuration(&mut self, before: &Board, n: usize, value: u64, edge: bool) {
-        let (old, new) = (before.timers.timer[n], self.board.timers.timer[n]);
-        let counts = &mut *self.counts;
-        counts.note_if(edge, Event::EdgeByConfiguration);
-        let high = |board: &Board, route: u16| board.controller.pins[usize::from(route)].wire;
-        let driven = before.timers.enabled && old.drives();
-        let rewritten = driven && new.drives() && old != new;
-        counts.note_if(rewritten && old.route == new.route, Event::RewrittenHigh);
-        let moved = rewritten
-            && old.route != new.route
-            && !high(&self.board, old.route)
-            && !high(before, new.route);
-        counts.note_if(moved, Event::MovedWire);
-        let alone = value & bits::SET_COMPARATOR != 0 && value & bits::PERIODIC == 0;
-        counts.note_if(alone, Event::BitSixAlone);
-        let above = (value >> bits::ROUTE_SHIFT & bits::ROUTE_MASK) as usize >= PINS;
-        counts.note_if(above && old != new, Event::RouteAbove);
-        let cleared = old.status && !new.status;
-        counts.note_if(above && cleared, Event::RouteAboveStatus);
-        counts.note_if(cleared, Event::StatusByEdgeType);
-        counts.note_if(old.comparator != new.comparator, Event::NarrowReduces);
-        counts.note_if(old.period != new.period, Event::NarrowReducesPeriod);
-        self.fired[n] = false;
-    }
-
-    fn watch_comparator(&mut self, before: &Board, n: usize, value: u64) {
-        let (old, new) = (before.timers.timer[n], self.board.timers.timer[n]);
-        let counts = &mut *self.counts;
-        counts.note_if(old.set_comparator, Event::BitSix);
-        counts.note_if(old.periodic && !old.set_comparator, Event::PeriodOnly);
-        counts.note_if(!old.periodic && old.period != 0, Event::OneShotKeepsPeriod);
-        counts.note_if(old.narrow && value >> 32 != 0, Event::NarrowWriteReduces);
-        let equal = new.comparator != old.comparator && new.matches(before.timers.counter);
-        counts.note_if(equal, Event::MadeEqual);
-        self.fired[n] = false;
-    }
-
     fn watch_wire(&mut self, before: &Board, number: usize, level: bool) {
         let (old, new) = (&before.controller.pins[number], &self.board.controller.pins[number]);
         let counts = &mut *self.counts;
@@ -188,6 +125,7 @@ impl Watcher<'_> {
         counts.note_if(asserts && new.is_masked() && !new.is_level(), Event::WireMasked);
         let changed = before.outside[number] != level;
         counts.note_if(changed && old.wire == new.wire, Event::WireHidden);
+        counts.note_if(!changed, Event::WireSame);
     }
 
     fn watch_end(&mut self, before: &Board, vector: u8) {
@@ -224,6 +162,7 @@ impl Watcher<'_> {
         counts.note_if(pin.remote_irr(), Event::DeliverEdgeWithIrr);
         let waits = pins.iter().any(|pin| pin.is_level() && pin.remote_irr());
         counts.note_if(pin.is_level() && waits, Event::DeliverBesideIrr);
+        counts.note_if(!pin.is_level() && waits, Event::DeliverEdgeBesideIrr);
     }
 
     /// Edges held on pins with another mode, whatever made them.
@@ -243,9 +182,4 @@ fn low_word_pin(board: &Board) -> Option<usize> {
     let index = board.controller.index as usize;
     let low = index >= 0x10 && index.is_multiple_of(2) && index < 0x10 + 2 * PINS;
     low.then(|| (index - 0x10) / 2)
-}
-
-fn new_edges(before: &Board, after: &Board) -> bool {
-    let pins = before.controller.pins.iter().zip(&after.controller.pins);
-    pins.into_iter().any(|(old, new)| !old.held && new.held)
 }

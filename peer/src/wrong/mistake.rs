@@ -78,6 +78,9 @@ mistakes! {
     // Timer registers.
     GlitchingWrite: "a configuration write is several steps";
     SilentEnable: "enabling and disabling the block makes no edge";
+    SilentDisable: "disabling the block makes no edge";
+    SilentFall: "a configuration write that drops a wire makes no edge";
+    SilentRoute: "moving a route makes no edge";
     SilentStatusClear: "clearing a status makes no edge";
     LateInterruptSilent: "turning an interrupt on later makes no edge";
     BitSixHidden: "bit 6 always reads 0";
@@ -109,6 +112,8 @@ mistakes! {
     EdgeSetsStatus: "a firing edge timer sets its status";
     OrderSwapped: "timers fire in the order 2, 1, 0";
     LevelsFirst: "within a tick, level timers fire before edge timers";
+    PulsesFirst: "within a tick, edge timers fire before level timers";
+    OneFiringPerTick: "only one timer fires in a tick";
     PulseByStart: "a pulse is judged by the wire at the advance's start";
     PulseByEnd: "a pulse is judged by the wire at the advance's end";
     EqualStartFires: "an advance that starts at a match fires";
@@ -134,4 +139,18 @@ mistakes! {
     LimitTooLow: "a log of 65,536 bytes is too long";
     LimitTooHigh: "a log of 65,537 bytes isn't too long";
     BigEndianTicks: "ticks are read big-endian";
+    // A reset.
+    ResetRefuses: "a reset refuses an ill-formed board with 5";
+    ResetMendsNothing: "a reset leaves an ill-formed board as it is";
+    ResetKeepsOutside: "a reset keeps the outside wires";
+    ResetKeepsEdges: "a reset keeps held edges";
+    ResetKeepsRunning: "a reset keeps the counter running";
+    ResetKeepsIndex: "a reset keeps the index";
+    ResetKeepsId: "a reset keeps the id";
+    ResetKeepsIrr: "a reset keeps remote IRR";
+    ResetKeepsDestination: "a reset keeps the destinations";
+    ResetUnmasks: "a reset leaves the entries unmasked";
+    ResetKeepsCounter: "a reset keeps the counter's number";
+    ResetKeepsPeriod: "a reset keeps the periods";
+    ResetZeroComparator: "a reset sets the comparators to 0";
 }

@@ -6,11 +6,13 @@
 mod log;
 mod mistake;
 mod reads;
+mod reset;
 mod time;
 mod writes;
 
 pub use log::replay;
 pub use mistake::Mistake;
+pub use reset::replies;
 
 use crate::board::{Board, Calls, Refusal};
 use crate::controller::Delivery;
@@ -120,6 +122,10 @@ fn without(pin: &Pin, bits: u32) -> bool {
 }
 
 impl Calls for Wrong {
+    fn reset(&mut self) -> Result<(), Refusal> {
+        self.wrong_reset()
+    }
+
     fn read(&mut self, window: u64, width: u64, offset: u64) -> Result<u64, Refusal> {
         let offset = self.wrong_offset(window, width, offset);
         self.wrong_refusal(window, width, offset, 0)?;

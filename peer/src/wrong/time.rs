@@ -51,6 +51,8 @@ impl Wrong {
             | Mistake::EdgeSetsStatus
             | Mistake::OrderSwapped
             | Mistake::LevelsFirst
+            | Mistake::PulsesFirst
+            | Mistake::OneFiringPerTick
             | Mistake::OneShotDisarmed
             | Mistake::PeriodZeroNever
             | Mistake::PeriodZeroAlways
@@ -133,6 +135,9 @@ impl Wrong {
                 self.fire_wrongly(n);
                 let silent = !self.board.timers.timer[n].interrupt;
                 fired[n] += u32::from(!(silent && self.has(Mistake::SilentUncounted)));
+                if self.has(Mistake::OneFiringPerTick) {
+                    return;
+                }
             }
         }
     }
@@ -143,6 +148,9 @@ impl Wrong {
             Mistake::OrderSwapped => order.reverse(),
             Mistake::LevelsFirst => {
                 order.sort_by_key(|&n| !self.board.timers.timer[n].level_type);
+            }
+            Mistake::PulsesFirst => {
+                order.sort_by_key(|&n| self.board.timers.timer[n].level_type);
             }
             _ => {}
         }

@@ -110,6 +110,7 @@ impl Wrong {
         let silent = match self.mistake {
             Mistake::SilentRegisterWrite => true,
             Mistake::SilentEnable => offset == ENABLE,
+            Mistake::SilentDisable => offset == ENABLE && !self.board.timers.enabled,
             Mistake::SilentStatusClear => offset == STATUS,
             _ => false,
         };
@@ -152,6 +153,12 @@ impl Wrong {
         match self.mistake {
             Mistake::LateInterruptSilent if timer.interrupt && !old.interrupt => {
                 self.restore_held(before);
+            }
+            Mistake::SilentRoute if timer.route != old.route => self.restore_held(before),
+            Mistake::SilentFall => {
+                let pins = self.board.controller.pins.iter_mut().zip(&before.controller.pins);
+                let fallen = pins.filter(|(pin, old)| old.wire && !pin.wire);
+                fallen.for_each(|(pin, old)| pin.held = old.held);
             }
             Mistake::BitSixKept => {
                 self.memory.bits[n] = value & bits::SET_COMPARATOR != 0;

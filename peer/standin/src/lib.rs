@@ -17,8 +17,15 @@ pub extern "C" fn nataqvoju_reset(board: *mut Board) -> Reply {
 
 /// Reads a register.
 #[no_mangle]
-pub extern "C" fn nataqvoju_read(board: *mut Board, window: u64, width: u64, offset: u64) -> Reply {
-    answer(board, Call::Read { window, width, offset })
+pub extern "C" fn nataqvoju_read(
+    board: *const Board,
+    window: u64,
+    width: u64,
+    offset: u64,
+) -> Reply {
+    // SAFETY: the caller lends a board for the length of the call, as the interface asks.
+    let mut copy = unsafe { *board };
+    Call::Read { window, width, offset }.answer(&mut copy)
 }
 
 /// Writes a register.

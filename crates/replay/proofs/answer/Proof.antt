@@ -7,7 +7,6 @@ use Rattle.replay.proofs.answer.Statement.{statement}
 use Rattle.replay.proofs.answer.Tie as tie
 use Rattle.replay.proofs.answer.Reads as reads
 use Rattle.replay.proofs.answer.Lts as lts
-use Rattle.io.proofs.write_all.Reads as write-all-reads
 use Rattle.replay.proofs.output.Reads as output-reads
 use Rattle.replay.proofs.room.Reads as room-reads
 
@@ -23,11 +22,11 @@ output-requires c κs = search needs
 array-share-prefix-out : tie.Need-array-share-prefix-out
 array-share-prefix-out c = within (outputOf (c .before .before .before .before .before .args .log .now)) (c .before .before .before .room .result) (c .before .output .last .1 .0) (c .before .output .result) (c .before .output .ensures .0) (c .before .output .ensures .1)
 
-slice-aggregate-write-all : tie.Need-slice-aggregate-write-all
-slice-aggregate-write-all c = sym (length-take-le (c .before .before .output .result) (c .before .before .output .last .1 .0) (within (outputOf (c .before .before .before .before .before .before .args .log .now)) (c .before .before .before .before .room .result) (c .before .before .output .last .1 .0) (c .before .before .output .result) (c .before .before .output .ensures .0) (c .before .before .output .ensures .1)))
+slice-aggregate-print : tie.Need-slice-aggregate-print
+slice-aggregate-print c = sym (length-take-le (c .before .before .output .result) (c .before .before .output .last .1 .0) (within (outputOf (c .before .before .before .before .before .before .args .log .now)) (c .before .before .before .before .room .result) (c .before .before .output .last .1 .0) (c .before .before .output .result) (c .before .before .output .ensures .0) (c .before .before .output .ensures .1)))
 
-write-all-requires : tie.Need-write-all-requires
-write-all-requires c κs = search needs
+print-requires : tie.Need-print-requires
+print-requires c κs = search needs
 
 returns : tie.Need-returns
 returns c = search needs
@@ -40,6 +39,6 @@ answer-spec =
     slice-aggregate-output
     output-requires
     array-share-prefix-out
-    slice-aggregate-write-all
-    write-all-requires
+    slice-aggregate-print
+    print-requires
     returns)

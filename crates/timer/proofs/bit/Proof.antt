@@ -10,22 +10,18 @@ use Rattle.timer.proofs.bit.Tie as tie
 use Rattle.timer.proofs.bit.Reads as reads
 use Rattle.timer.proofs.bit.Lts as lts
 
--- src/lib.rt:49:9
 returns : tie.Need-returns
 returns c =
     let a = c .before .args in
     let l : a .v < 2 ^ 64 = omega arith in
     ap (λ (x : ℕ). x % 2) (sym (div-eq-of-lt {n = a .v} {m = 2 ^ a .k} (lt-of-lt-of-le l (pow-mono (c .if1 .taken)))))
 
--- src/lib.rt:51:7
 shr-result : tie.Need-shr-result
 shr-result c = search needs
 
--- src/lib.rt:51:5
 cast-result : tie.Need-cast-result
 cast-result c = omega (arith, mask-lt (c .before .args .v / 2 ^ c .before .args .k) 1)
 
--- src/lib.rt:45:1
 returns-2 : tie.Need-returns-2
 returns-2 c = and-mask (c .before .args .v / 2 ^ c .before .args .k) 1
 

@@ -8,19 +8,15 @@ use Rattle.timer.proofs.placed.Tie as tie
 use Rattle.timer.proofs.placed.Reads as reads
 use Rattle.timer.proofs.placed.Lts as lts
 
--- src/lib.rt:59:9
 returns : tie.Need-returns
 returns c = sym (placed-out (boolByte (flag (c .before .args .f))) (c .before .args .k) (c .if1 .taken))
 
--- src/lib.rt:61:6
 cast-result : tie.Need-cast-result
 cast-result c = search needs
 
--- src/lib.rt:61:5
 shl-result : tie.Need-shl-result
 shl-result c = search needs
 
--- src/lib.rt:55:1
 returns-2 : tie.Need-returns-2
 returns-2 c = search needs
 

@@ -6,92 +6,72 @@ use Rattle.answers.proofs.Refusal.number.Tie as tie
 use Rattle.answers.proofs.Refusal.number.Reads as reads
 use Rattle.answers.proofs.Refusal.number.Lts as lts
 
--- src/lib.rt:65:32
 enum-told : tie.Need-enum-told
 enum-told c = search needs
 
--- src/lib.rt:66:32
 enum-told-2 : tie.Need-enum-told-2
 enum-told-2 c = search needs
 
--- src/lib.rt:67:31
 enum-told-3 : tie.Need-enum-told-3
 enum-told-3 c = search needs
 
--- src/lib.rt:68:29
 enum-told-4 : tie.Need-enum-told-4
 enum-told-4 c = search needs
 
--- src/lib.rt:69:31
 enum-told-5 : tie.Need-enum-told-5
 enum-told-5 c = search needs
 
--- src/lib.rt:70:31
 enum-told-6 : tie.Need-enum-told-6
 enum-told-6 c = search needs
 
--- src/lib.rt:71:31
 enum-told-7 : tie.Need-enum-told-7
 enum-told-7 c = search needs
 
--- src/lib.rt:72:30
 enum-told-8 : tie.Need-enum-told-8
 enum-told-8 c = search needs
 
--- src/lib.rt:73:30
 enum-told-9 : tie.Need-enum-told-9
 enum-told-9 c = search needs
 
--- src/lib.rt:74:31
 enum-told-10 : tie.Need-enum-told-10
 enum-told-10 c = search needs
 
--- src/lib.rt:61:5
 returns : tie.Need-returns
 unfolding numberOf
 returns c = sym (ap numberOf (c .enum-told .given .1))
 
--- src/lib.rt:61:5
 returns-2 : tie.Need-returns-2
 unfolding numberOf
 returns-2 c = sym (ap numberOf (c .enum-told2 .given .1))
 
--- src/lib.rt:61:5
 returns-3 : tie.Need-returns-3
 unfolding numberOf
 returns-3 c = sym (ap numberOf (c .enum-told3 .given .1))
 
--- src/lib.rt:61:5
 returns-4 : tie.Need-returns-4
 unfolding numberOf
 returns-4 c = sym (ap numberOf (c .enum-told4 .given .1))
 
--- src/lib.rt:61:5
 returns-5 : tie.Need-returns-5
 unfolding numberOf
 returns-5 c = sym (ap numberOf (c .enum-told5 .given .1))
 
--- src/lib.rt:61:5
 returns-6 : tie.Need-returns-6
 unfolding numberOf
 returns-6 c = sym (ap numberOf (c .enum-told6 .given .1))
 
--- src/lib.rt:61:5
 returns-7 : tie.Need-returns-7
 unfolding numberOf
 returns-7 c = sym (ap numberOf (c .enum-told7 .given .1))
 
--- src/lib.rt:61:5
 returns-8 : tie.Need-returns-8
 unfolding numberOf
 returns-8 c = sym (ap numberOf (c .enum-told8 .given .1))
 
--- src/lib.rt:61:5
 returns-9 : tie.Need-returns-9
 unfolding numberOf
 returns-9 c = sym (ap numberOf (c .enum-told9 .given .1))
 
--- src/lib.rt:61:5
 returns-10 : tie.Need-returns-10
 unfolding numberOf
 returns-10 c = sym (ap numberOf (c .enum-told10 .given .1))

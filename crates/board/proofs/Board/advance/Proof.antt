@@ -23,19 +23,15 @@ formed s e =
     let held : length (b .controller .entries .held) ≡ 24 = search needs in
     formed-in b e (record { low = low; destination = destination; level = level; held = held })
 
--- src/advance.rt:132:12
 well-formed-requires : tie.Need-well-formed-requires
 well-formed-requires c κs = search needs
 
--- src/advance.rt:133:13
 advancing-requires : tie.Need-advancing-requires
 advancing-requires c κs = search needs
 
--- src/advance.rt:135:13
 refused-requires : tie.Need-refused-requires
 refused-requires c κs = search needs
 
--- src/advance.rt:129:5
 returns : tie.Need-returns
 unfolding turnOf servedOf
 returns c =
@@ -43,7 +39,6 @@ returns c =
     let e = sym (c .before .before .well-formed .ensures) ∙ c .before .if1 .taken in
     rw e (c .advancing .ensures ∙ advancing-at (s .args .self) (formed s e) (s .args .ticks))
 
--- src/advance.rt:129:5
 returns-2 : tie.Need-returns-2
 unfolding turnOf servedOf
 returns-2 c = rw (sym (c .before .before .well-formed .ensures) ∙ c .before .if1 .left) (c .refused .ensures)

@@ -1,8 +1,8 @@
-use mathlib.Core.Path.{_≡_, ap, _∙_}
-use Rattle.entries.specs.declared.Entries.{Entries}
-use Rattle.controller.specs.State.{withEntries}
+use mathlib.Core.Path.{ap, _∙_}
 use lib.ListN.{getD}
 use Rattle.answers.specs.declared.Answer.the-variants as answer
+use Rattle.controller.specs.declared.Controller.{Controller}
+use Rattle.controller.specs.Inner.{struckOf}
 use Rattle.board.specs.State.{board, turn}
 use Rattle.board.specs.At.{ranAt, advancingAt}
 use borrow.Author.Needs.{needs}
@@ -10,44 +10,49 @@ use Rattle.board.proofs.Board.advancing.Statement.{statement}
 use Rattle.board.proofs.Board.advancing.Tie as tie
 use Rattle.board.proofs.Board.advancing.Reads as reads
 use Rattle.board.proofs.Board.advancing.Lts as lts
-use Rattle.board.proofs.advance.struck.Reads as struck-reads
+use Rattle.board.proofs.advance.strikes.Reads as strikes-reads
+use Rattle.controller.proofs.Controller.struck.Reads as struck-reads
 use Rattle.timers.proofs.Timers.ran.Reads as ran-reads
 
--- src/advance.rt:113:13
 ran-requires : tie.Need-ran-requires
 ran-requires c κs = search needs
 
--- src/advance.rt:118:9
+strikes-requires : tie.Need-strikes-requires
+strikes-requires c κs = search needs
+
 struck-requires : tie.Need-struck-requires
 struck-requires c κs = search needs
 
--- src/advance.rt:125:35
 array-read-t15 : tie.Need-array-read-t15
 array-read-t15 c = search needs
 
--- src/advance.rt:125:45
 array-read-t18 : tie.Need-array-read-t18
 array-read-t18 c = search needs
 
--- src/advance.rt:125:55
 array-read-t21 : tie.Need-array-read-t21
 array-read-t21 c = search needs
 
--- src/advance.rt:106:5
 returns : tie.Need-returns
 unfolding advancingAt
 returns c =
-    let a = c .before .before .before .before in
-    let s = c .before .before .before .before .before .before .before .before .before in
+    let r = c .before .before .before .before .before in
+    let s = r .before .before .before .before in
     let b = s .args .self in
-    let r = a .ran .result in
     ap
-    (λ (x : Entries).
-    turn (board (withEntries (b .controller) x) (r .timers) (b .outside)) (answer.Fired (getD (r .fired) 0 0) (getD (r .fired) 1 0) (getD (r .fired) 2 0)))
-    (c .struck .ensures)
-    ∙ ap (ranAt b (s .args .n)) (a .ran .ensures)
+    (λ (x : Controller).
+    turn (board x (r .ran .result .timers) (b .outside))
+    (answer.Fired (getD (r .ran .result .fired) 0 0) (getD (r .ran .result .fired) 1 0) (getD (r .ran .result .fired) 2 0)))
+    (c .struck .ensures ∙ ap (struckOf (b .controller)) (c .before .strikes .ensures))
+    ∙ ap (ranAt b) (r .ran .ensures)
 
 pub advancing-spec : {M : Type 1} → statement M
 advancing-spec =
     tie.close
-    (tie.spec ran-requires struck-requires array-read-t15 array-read-t18 array-read-t21 returns)
+    (tie.spec
+    ran-requires
+    strikes-requires
+    struck-requires
+    array-read-t15
+    array-read-t18
+    array-read-t21
+    returns)

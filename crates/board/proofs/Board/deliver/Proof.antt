@@ -1,5 +1,4 @@
-use mathlib.Core.Path.{_≡_, refl, sym, ap, _∙_}
-use borrow.Author.Tests.{not-true, not-false, lt-ltb, le-ltb, le-leb, lt-leb, eq-eqb, ne-eqb}
+use mathlib.Core.Path.{sym, _∙_}
 use Rattle.board.specs.Step.{turnOf, servedOf}
 use borrow.Author.Needs.{needs}
 use Rattle.board.proofs.Board.deliver.Statement.{statement}
@@ -10,24 +9,19 @@ use Rattle.board.proofs.Board.delivering.Reads as delivering-reads
 use Rattle.board.proofs.Board.refused.Reads as refused-reads
 use Rattle.board.proofs.Board.well_formed.Reads as well-formed-reads
 
--- src/step.rt:176:12
 well-formed-requires : tie.Need-well-formed-requires
 well-formed-requires c κs = search needs
 
--- src/step.rt:177:13
 delivering-requires : tie.Need-delivering-requires
 delivering-requires c κs = search needs
 
--- src/step.rt:179:13
 refused-requires : tie.Need-refused-requires
 refused-requires c κs = search needs
 
--- src/step.rt:173:5
 returns : tie.Need-returns
 unfolding turnOf servedOf
 returns c = rw (sym (c .before .before .well-formed .ensures) ∙ c .before .if1 .taken) (c .delivering .ensures)
 
--- src/step.rt:173:5
 returns-2 : tie.Need-returns-2
 unfolding turnOf servedOf
 returns-2 c = rw (sym (c .before .before .well-formed .ensures) ∙ c .before .if1 .left) (c .refused .ensures)

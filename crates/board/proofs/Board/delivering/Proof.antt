@@ -6,11 +6,9 @@ use Rattle.board.proofs.Board.delivering.Reads as reads
 use Rattle.board.proofs.Board.delivering.Lts as lts
 use Rattle.controller.proofs.Controller.delivering.Reads as delivering-reads
 
--- src/step.rt:122:13
 delivering-requires : tie.Need-delivering-requires
 delivering-requires c κs = search needs
 
--- src/step.rt:118:5
 returns : tie.Need-returns
 unfolding deliveringOnBoard
 returns c = rw (c .before .delivering .ensures)

@@ -6,11 +6,9 @@ use Rattle.board.proofs.Board.ending.Reads as reads
 use Rattle.board.proofs.Board.ending.Lts as lts
 use Rattle.controller.proofs.Controller.ending.Reads as ending-reads
 
--- src/step.rt:111:9
 ending-requires : tie.Need-ending-requires
 ending-requires c κs = search needs
 
--- src/step.rt:106:5
 returns : tie.Need-returns
 unfolding endingOf
 returns c = rw (c .ending .ensures)

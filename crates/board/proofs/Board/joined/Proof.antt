@@ -7,15 +7,12 @@ use Rattle.board.proofs.Board.joined.Lts as lts
 use Rattle.board.proofs.wires.wires.Reads as wires-reads
 use Rattle.controller.proofs.Controller.rewired.Reads as rewired-reads
 
--- src/wires.rt:42:35
 wires-requires : tie.Need-wires-requires
 wires-requires c κs = search needs
 
--- src/wires.rt:42:25
 rewired-requires : tie.Need-rewired-requires
 rewired-requires c κs = search needs
 
--- src/wires.rt:37:5
 returns : tie.Need-returns
 unfolding joined
 returns c = rw (← (c .before .wires .ensures), c .rewired .ensures)

@@ -1,12 +1,12 @@
 use mathlib.Core.Path.{_≡_, refl, sym, ap, ap₂, _∙_}
 use mathlib.Core.Bool.{Bool, _&&_, _||_}
-use mathlib.Core.List.{List, _++_}
+use mathlib.Core.List.{List}
 use lib.Dec.{eqb, leb}
-use lib.ListN.{getD, set, drop, replicate}
-use Prim.Native.Nat.{ℕ, _-_, _<_, _≤_}
+use lib.ListN.{getD}
+use Prim.Native.Nat.{ℕ, _-_, _≤_}
 use mir.Val.{boolByte}
 use native.Mathlib.Omega.{arith}
-use Rattle.board.specs.Wires.{highAt, wiresOf}
+use Rattle.board.specs.Wires.{highAt}
 use Rattle.board.proofs.Rule.{high-by}
 use Rattle.pins.specs.Pins.{allFrom, every}
 use Rattle.pins.proofs.Scan.{all-more}
@@ -28,56 +28,43 @@ Inv-loop level outside p q r ok₀ i₀ pin₀ ok i pin = (i ≤ 24) × (ok ≡ 
 abbrev μ-loop : tie.MeasureT-loop
 μ-loop level outside p q r ok₀ i₀ pin₀ ok i pin = 24 - i
 
--- src/wires.rt:72:13
 driven-requires : tie.Need-driven-requires Inv-loop μ-loop
 driven-requires c κs = tt
 
--- src/wires.rt:73:13
 driven-requires-2 : tie.Need-driven-requires-2 Inv-loop μ-loop
 driven-requires-2 c κs = tt
 
--- src/wires.rt:74:13
 driven-requires-3 : tie.Need-driven-requires-3 Inv-loop μ-loop
 driven-requires-3 c κs = tt
 
--- src/wires.rt:78:9
 loop-holds : tie.Need-loop-holds Inv-loop μ-loop
 unfolding allFrom
 loop-holds c = (omega arith, refl, refl)
 
--- src/wires.rt:79:24
 array-read-kept : tie.Need-array-read-kept Inv-loop μ-loop
 array-read-kept c = omega arith
 
--- src/wires.rt:79:38
 array-read-kept-2 : tie.Need-array-read-kept-2 Inv-loop μ-loop
 array-read-kept-2 c = omega arith
 
--- src/wires.rt:79:57
 reached-requires : tie.Need-reached-requires Inv-loop μ-loop
 reached-requires c κs = tt
 
--- src/wires.rt:79:36
 cast-kept : tie.Need-cast-kept Inv-loop μ-loop
 cast-kept c = omega arith
 
--- src/wires.rt:80:25
 array-read-ok : tie.Need-array-read-ok Inv-loop μ-loop
 array-read-ok c = omega arith
 
--- src/wires.rt:81:13
 add-i : tie.Need-add-i Inv-loop μ-loop
 add-i c = omega arith
 
--- src/wires.rt:82:13
 add-pin : tie.Need-add-pin Inv-loop μ-loop
 add-pin c = omega arith
 
--- src/wires.rt:78:9
 loop-less : tie.Need-loop-less Inv-loop μ-loop
 loop-less c = omega arith
 
--- src/wires.rt:78:9
 loop-again : tie.Need-loop-again Inv-loop μ-loop
 loop-again c =
     let a = c .before .before in
@@ -97,7 +84,6 @@ loop-again c =
       omega (arith, a .loop .inv .2),
     )
 
--- src/wires.rt:64:5
 returns : tie.Need-returns Inv-loop μ-loop
 returns c =
     let a = c .before in

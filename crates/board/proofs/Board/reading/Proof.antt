@@ -1,5 +1,4 @@
-use mathlib.Core.Path.{_≡_, refl, sym, ap, _∙_}
-use borrow.Author.Tests.{not-true, not-false, lt-ltb, le-ltb, le-leb, lt-leb, eq-eqb, ne-eqb}
+use borrow.Author.Tests.{eq-eqb, ne-eqb}
 use Rattle.board.specs.Step.{readingOf}
 use borrow.Author.Needs.{needs}
 use Rattle.board.proofs.Board.reading.Statement.{statement}
@@ -10,29 +9,23 @@ use Rattle.board.proofs.Board.refused.Reads as refused-reads
 use Rattle.controller.proofs.Controller.reading.Reads as Controller-reading-reads
 use Rattle.timers.proofs.Timers.reading.Reads as Timers-reading-reads
 
--- src/step.rt:34:17
 reading-requires : tie.Need-reading-requires
 reading-requires c κs = search needs
 
--- src/step.rt:39:13
 returns : tie.Need-returns
 unfolding readingOf
 returns c = rw (eq-eqb _ _ (c .before .before .before .if1 .taken), c .before .reading .ensures)
 
--- src/step.rt:46:17
 reading-requires-2 : tie.Need-reading-requires-2
 reading-requires-2 c κs = search needs
 
--- src/step.rt:48:13
 returns-2 : tie.Need-returns-2
 unfolding readingOf
 returns-2 c = rw (ne-eqb _ _ (c .before .before .before .if1 .left), eq-eqb _ _ (c .before .before .if2 .taken), c .reading2 .ensures)
 
--- src/step.rt:53:9
 refused-requires : tie.Need-refused-requires
 refused-requires c κs = search needs
 
--- src/step.rt:29:5
 returns-3 : tie.Need-returns-3
 unfolding readingOf
 returns-3 c = rw (ne-eqb _ _ (c .before .before .if1 .left), ne-eqb _ _ (c .before .if2 .left)) (c .refused .ensures)

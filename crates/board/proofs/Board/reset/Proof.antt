@@ -6,15 +6,12 @@ use Rattle.board.proofs.Board.reset.Lts as lts
 use Rattle.controller.proofs.Controller.reset.Reads as Controller-reset-reads
 use Rattle.timers.proofs.Timers.reset.Reads as Timers-reset-reads
 
--- src/wires.rt:30:21
 reset-requires : tie.Need-reset-requires
 reset-requires c κs = search needs
 
--- src/wires.rt:31:25
 reset-requires-2 : tie.Need-reset-requires-2
 reset-requires-2 c κs = search needs
 
--- src/wires.rt:26:5
 returns : tie.Need-returns
 returns c = cc
 

@@ -1,5 +1,8 @@
 use mathlib.Core.Path.{sym, ap, _∙_}
-use Rattle.board.specs.Step.{turnOf}
+use Rattle.answers.specs.declared.Answer.the-variants as answer
+use Rattle.board.specs.declared.Board.{Board}
+use Rattle.board.specs.State.{turn}
+use Rattle.board.specs.Step.{servedOf, turnOf}
 use borrow.Author.Needs.{needs}
 use Rattle.board.proofs.Board.step.Statement.{statement}
 use Rattle.board.proofs.Board.step.Tie as tie
@@ -9,80 +12,75 @@ use Rattle.board.proofs.Board.advance.Reads as advance-reads
 use Rattle.board.proofs.Board.deliver.Reads as deliver-reads
 use Rattle.board.proofs.Board.end.Reads as end-reads
 use Rattle.board.proofs.Board.read.Reads as read-reads
+use Rattle.board.proofs.Board.reset.Reads as reset-reads
 use Rattle.board.proofs.Board.wire.Reads as wire-reads
 use Rattle.board.proofs.Board.write.Reads as write-reads
 
--- src/step.rt:188:17
 enum-known-call : tie.Need-enum-known-call
 enum-known-call c = search needs
 
--- src/step.rt:191:18
 read-requires : tie.Need-read-requires
 read-requires c κs = search needs
 
--- src/step.rt:193:17
 enum-known-call-2 : tie.Need-enum-known-call-2
 enum-known-call-2 c = search needs
 
--- src/step.rt:197:18
 write-requires : tie.Need-write-requires
 write-requires c κs = search needs
 
--- src/step.rt:198:26
 enum-known-call-3 : tie.Need-enum-known-call-3
 enum-known-call-3 c = search needs
 
--- src/step.rt:198:42
 wire-requires : tie.Need-wire-requires
 wire-requires c κs = search needs
 
--- src/step.rt:199:25
 enum-known-call-4 : tie.Need-enum-known-call-4
 enum-known-call-4 c = search needs
 
--- src/step.rt:199:37
 end-requires : tie.Need-end-requires
 end-requires c κs = search needs
 
--- src/step.rt:200:29
 enum-known-call-5 : tie.Need-enum-known-call-5
 enum-known-call-5 c = search needs
 
--- src/step.rt:200:40
 advance-requires : tie.Need-advance-requires
 advance-requires c κs = search needs
 
--- src/step.rt:201:30
 enum-told : tie.Need-enum-told
 enum-told c = search needs
 
--- src/step.rt:201:30
 deliver-requires : tie.Need-deliver-requires
 deliver-requires c κs = search needs
 
--- src/step.rt:183:5
+enum-told-2 : tie.Need-enum-told-2
+enum-told-2 c = search needs
+
+reset-requires : tie.Need-reset-requires
+reset-requires c κs = search needs
+
 returns : tie.Need-returns
 returns c = c .read .ensures ∙ ap (turnOf (c .before .before .before .before .args .self)) (sym (c .before .before .call .given .1))
 
--- src/step.rt:183:5
 returns-2 : tie.Need-returns-2
 returns-2 c = c .write .ensures ∙ ap (turnOf (c .before .before .before .before .args .self)) (sym (c .before .before .call2 .given .1))
 
--- src/step.rt:183:5
 returns-3 : tie.Need-returns-3
 returns-3 c = c .wire .ensures ∙ ap (turnOf (c .before .before .before .before .args .self)) (sym (c .before .before .call3 .given .1))
 
--- src/step.rt:183:5
 returns-4 : tie.Need-returns-4
 returns-4 c = c .end .ensures ∙ ap (turnOf (c .before .before .before .before .args .self)) (sym (c .before .before .call4 .given .1))
 
--- src/step.rt:183:5
 returns-5 : tie.Need-returns-5
 returns-5 c = c .advance .ensures ∙ ap (turnOf (c .before .before .before .before .args .self)) (sym (c .before .before .call5 .given .1))
 
--- src/step.rt:183:5
 returns-6 : tie.Need-returns-6
 returns-6 c = c .deliver .ensures ∙ ap (turnOf (c .before .before .before .args .self)) (sym (c .before .enum-told .given .1))
+
+returns-7 : tie.Need-returns-7
+unfolding turnOf servedOf
+returns-7 c =
+    ap (λ (b : Board). turn b answer.Done) (c .reset .ensures)
+    ∙ ap (turnOf (c .before .before .before .args .self)) (sym (c .before .enum-told2 .given .1))
 
 pub step-spec : {M : Type 1} → statement M
 step-spec =
@@ -100,9 +98,12 @@ step-spec =
     advance-requires
     enum-told
     deliver-requires
+    enum-told-2
+    reset-requires
     returns
     returns-2
     returns-3
     returns-4
     returns-5
-    returns-6)
+    returns-6
+    returns-7)

@@ -8,19 +8,15 @@ use Rattle.board.proofs.Board.kept.Reads as kept-reads
 use Rattle.controller.proofs.Controller.well_formed.Reads as Controller-well-formed-reads
 use Rattle.timers.proofs.Timers.well_formed.Reads as Timers-well-formed-reads
 
--- src/wires.rt:70:9
 well-formed-requires : tie.Need-well-formed-requires
 well-formed-requires c κs = search needs
 
--- src/wires.rt:70:28
 well-formed-requires-2 : tie.Need-well-formed-requires-2
 well-formed-requires-2 c κs = search needs
 
--- src/wires.rt:70:77
 kept-requires : tie.Need-kept-requires
 kept-requires c κs = search needs
 
--- src/wires.rt:64:5
 returns : tie.Need-returns
 unfolding wellFormed
 returns c = rw (c .before .before .well-formed .ensures, c .before .well-formed2 .ensures, c .kept .ensures)

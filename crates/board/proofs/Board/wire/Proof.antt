@@ -23,19 +23,15 @@ formed s e =
     let held : length (b .controller .entries .held) ≡ 24 = search needs in
     formed-in b e (record { low = low; destination = destination; level = level; held = held })
 
--- src/step.rt:162:12
 well-formed-requires : tie.Need-well-formed-requires
 well-formed-requires c κs = search needs
 
--- src/step.rt:163:13
 wiring-requires : tie.Need-wiring-requires
 wiring-requires c κs = search needs
 
--- src/step.rt:165:13
 refused-requires : tie.Need-refused-requires
 refused-requires c κs = search needs
 
--- src/step.rt:159:5
 returns : tie.Need-returns
 unfolding turnOf servedOf
 returns c =
@@ -44,7 +40,6 @@ returns c =
     let long : length (s .args .self .outside) ≡ 24 = search needs in
     rw e (c .wiring .ensures ∙ wiring-at (s .args .self) (formed s e) long (s .args .pin) (s .args .level))
 
--- src/step.rt:159:5
 returns-2 : tie.Need-returns-2
 unfolding turnOf servedOf
 returns-2 c = rw (sym (c .before .before .well-formed .ensures) ∙ c .before .if1 .left) (c .refused .ensures)

@@ -1,4 +1,4 @@
-use mathlib.Core.Path.{_≡_, ap, _∙_}
+use mathlib.Core.Path.{ap, _∙_}
 use mathlib.Core.Bool.{Bool, _||_}
 use lib.Dec.{eqb}
 use lib.ListN.{set}
@@ -6,7 +6,7 @@ use mir.Val.{boolByte}
 use borrow.Author.Tests.{lt-ltb, le-ltb, le-leb, lt-leb}
 use Rattle.answers.specs.declared.Answer.the-variants as answer
 use Rattle.controller.specs.declared.Controller.{Controller}
-use Rattle.controller.specs.Steps.{rewiredAt}
+use Rattle.controller.specs.Inner.{rewiredAt}
 use Rattle.board.specs.State.{board, turn}
 use Rattle.board.specs.At.{wiringAt}
 use borrow.Author.Needs.{needs}
@@ -18,49 +18,38 @@ use Rattle.board.proofs.Board.refused.Reads as refused-reads
 use Rattle.controller.proofs.Controller.rewired_at.Reads as rewired-at-reads
 use Rattle.timers.proofs.Timers.drives.Reads as drives-reads
 
--- src/step.rt:91:13
 refused-requires : tie.Need-refused-requires
 refused-requires c κs = search needs
 
--- src/step.rt:91:13
 returns : tie.Need-returns
 unfolding wiringAt
 returns c = rw (le-ltb _ _ (c .before .if1 .taken)) (c .refused .ensures)
 
--- src/step.rt:94:13
 refused-requires-2 : tie.Need-refused-requires-2
 refused-requires-2 c κs = search needs
 
--- src/step.rt:94:13
 returns-2 : tie.Need-returns-2
 unfolding wiringAt
 returns-2 c = rw (lt-ltb _ _ (c .before .before .if1 .left), lt-leb _ _ (c .before .if2 .taken)) (c .refused2 .ensures)
 
--- src/step.rt:100:22
 cast-outside : tie.Need-cast-outside
 cast-outside c = search needs
 
--- src/step.rt:100:9
 array-write-outside : tie.Need-array-write-outside
 array-write-outside c = search needs
 
--- src/step.rt:101:49
 cast-drives : tie.Need-cast-drives
 cast-drives c = search needs
 
--- src/step.rt:101:35
 drives-requires : tie.Need-drives-requires
 drives-requires c κs = search needs
 
--- src/step.rt:105:45
 cast-rewired-at : tie.Need-cast-rewired-at
 cast-rewired-at c = search needs
 
--- src/step.rt:105:29
 rewired-at-requires : tie.Need-rewired-at-requires
 rewired-at-requires c κs = search needs
 
--- src/step.rt:87:5
 returns-3 : tie.Need-returns-3
 unfolding wiringAt
 returns-3 c =

@@ -1,5 +1,4 @@
-use mathlib.Core.Path.{_≡_, refl, sym, ap, _∙_}
-use borrow.Author.Tests.{not-true, not-false, lt-ltb, le-ltb, le-leb, lt-leb, eq-eqb, ne-eqb}
+use mathlib.Core.Path.{sym, _∙_}
 use Rattle.board.specs.Step.{turnOf, servedOf}
 use borrow.Author.Needs.{needs}
 use Rattle.board.proofs.Board.write.Statement.{statement}
@@ -10,24 +9,19 @@ use Rattle.board.proofs.Board.refused.Reads as refused-reads
 use Rattle.board.proofs.Board.well_formed.Reads as well-formed-reads
 use Rattle.board.proofs.Board.writing.Reads as writing-reads
 
--- src/step.rt:146:12
 well-formed-requires : tie.Need-well-formed-requires
 well-formed-requires c κs = search needs
 
--- src/step.rt:147:13
 writing-requires : tie.Need-writing-requires
 writing-requires c κs = search needs
 
--- src/step.rt:149:13
 refused-requires : tie.Need-refused-requires
 refused-requires c κs = search needs
 
--- src/step.rt:143:5
 returns : tie.Need-returns
 unfolding turnOf servedOf
 returns c = rw (sym (c .before .before .well-formed .ensures) ∙ c .before .if1 .taken) (c .writing .ensures)
 
--- src/step.rt:143:5
 returns-2 : tie.Need-returns-2
 unfolding turnOf servedOf
 returns-2 c = rw (sym (c .before .before .well-formed .ensures) ∙ c .before .if1 .left) (c .refused .ensures)

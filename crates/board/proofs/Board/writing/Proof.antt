@@ -1,5 +1,4 @@
-use mathlib.Core.Path.{_≡_, refl, sym, ap, _∙_}
-use borrow.Author.Tests.{not-true, not-false, lt-ltb, le-ltb, le-leb, lt-leb, eq-eqb, ne-eqb}
+use borrow.Author.Tests.{eq-eqb, ne-eqb}
 use Rattle.board.specs.Step.{writingOf}
 use borrow.Author.Needs.{needs}
 use Rattle.board.proofs.Board.writing.Statement.{statement}
@@ -11,33 +10,26 @@ use Rattle.board.proofs.Board.refused.Reads as refused-reads
 use Rattle.controller.proofs.Controller.writing.Reads as Controller-writing-reads
 use Rattle.timers.proofs.Timers.writing.Reads as Timers-writing-reads
 
--- src/step.rt:61:17
 writing-requires : tie.Need-writing-requires
 writing-requires c κs = search needs
 
--- src/step.rt:66:13
 returns : tie.Need-returns
 unfolding writingOf
 returns c = rw (eq-eqb _ _ (c .before .before .before .if1 .taken), c .before .writing .ensures)
 
--- src/step.rt:75:17
 writing-requires-2 : tie.Need-writing-requires-2
 writing-requires-2 c κs = search needs
 
--- src/step.rt:79:24
 joined-requires : tie.Need-joined-requires
 joined-requires c κs = search needs
 
--- src/step.rt:78:13
 returns-2 : tie.Need-returns-2
 unfolding writingOf
 returns-2 c = rw (ne-eqb _ _ (c .before .before .before .before .before .before .before .if1 .left), eq-eqb _ _ (c .before .before .before .before .before .before .if2 .taken), ← (c .before .before .writing2 .ensures), c .joined .ensures)
 
--- src/step.rt:83:9
 refused-requires : tie.Need-refused-requires
 refused-requires c κs = search needs
 
--- src/step.rt:56:5
 returns-3 : tie.Need-returns-3
 unfolding writingOf
 returns-3 c = rw (ne-eqb _ _ (c .before .before .if1 .left), ne-eqb _ _ (c .before .if2 .left)) (c .refused .ensures)

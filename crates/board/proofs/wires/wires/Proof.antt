@@ -1,9 +1,9 @@
-use mathlib.Core.Path.{_≡_, refl, sym, ap, ap₂, _∙_}
-use mathlib.Core.Bool.{Bool, _&&_, _||_}
+use mathlib.Core.Path.{_≡_, refl, ap, _∙_}
+use mathlib.Core.Bool.{Bool, _||_}
 use mathlib.Core.List.{List, _++_}
-use lib.Dec.{eqb, leb}
+use lib.Dec.{eqb}
 use lib.ListN.{getD, set, drop, replicate}
-use Prim.Native.Nat.{ℕ, _-_, _<_, _≤_}
+use Prim.Native.Nat.{ℕ, _-_, _≤_}
 use mir.Val.{boolByte}
 use native.Mathlib.Omega.{arith}
 use Rattle.board.specs.Wires.{highAt, wiresOf}
@@ -30,52 +30,40 @@ Inv-loop outside a b c levels₀ i₀ pin₀ levels i pin = (i ≤ 24) × (level
 abbrev μ-loop : tie.MeasureT-loop
 μ-loop outside a b c levels₀ i₀ pin₀ levels i pin = 24 - i
 
--- src/wires.rt:27:9
 driven-requires : tie.Need-driven-requires Inv-loop μ-loop
 driven-requires c κs = tt
 
--- src/wires.rt:28:9
 driven-requires-2 : tie.Need-driven-requires-2 Inv-loop μ-loop
 driven-requires-2 c κs = tt
 
--- src/wires.rt:29:9
 driven-requires-3 : tie.Need-driven-requires-3 Inv-loop μ-loop
 driven-requires-3 c κs = tt
 
--- src/wires.rt:33:5
 loop-holds : tie.Need-loop-holds Inv-loop μ-loop
 unfolding tab
 loop-holds c = (omega arith, refl, refl)
 
--- src/wires.rt:34:23
 array-read-levels : tie.Need-array-read-levels Inv-loop μ-loop
 array-read-levels c = omega arith
 
--- src/wires.rt:34:42
 reached-requires : tie.Need-reached-requires Inv-loop μ-loop
 reached-requires c κs = tt
 
--- src/wires.rt:34:21
 cast-levels : tie.Need-cast-levels Inv-loop μ-loop
 cast-levels c = omega arith
 
--- src/wires.rt:34:9
 array-write-levels : tie.Need-array-write-levels Inv-loop μ-loop
 array-write-levels c = omega arith
 
--- src/wires.rt:35:9
 add-i : tie.Need-add-i Inv-loop μ-loop
 add-i c = omega arith
 
--- src/wires.rt:36:9
 add-pin : tie.Need-add-pin Inv-loop μ-loop
 add-pin c = omega arith
 
--- src/wires.rt:33:5
 loop-less : tie.Need-loop-less Inv-loop μ-loop
 loop-less c = omega arith
 
--- src/wires.rt:33:5
 loop-again : tie.Need-loop-again Inv-loop μ-loop
 loop-again c =
     let a = c .before .before in
@@ -93,7 +81,6 @@ loop-again c =
       omega (arith, a .loop .inv .2),
     )
 
--- src/wires.rt:24:1
 returns : tie.Need-returns Inv-loop μ-loop
 unfolding wiresOf
 returns c =

@@ -1,5 +1,5 @@
-use mathlib.Core.Path.{_≡_, refl, sym, ap, _∙_}
-use borrow.Author.Tests.{not-true, not-false, lt-ltb, le-ltb, le-leb, lt-leb, eq-eqb, ne-eqb}
+use mathlib.Core.Path.{_≡_}
+use borrow.Author.Tests.{lt-ltb, le-ltb, le-leb, lt-leb, eq-eqb, ne-eqb}
 use Prim.Native.Nat.{_-_, _%_}
 use native.Mathlib.Omega.{arith}
 use lib.Bits.{and-mask}
@@ -13,52 +13,41 @@ use Rattle.controller.proofs.Controller.id_shown.Reads as id-shown-read
 use Rattle.entries.proofs.Entries.high_shown.Reads as high-shown-reads
 use Rattle.entries.proofs.Entries.low_shown.Reads as low-shown-reads
 
--- src/window.rt:51:13
 id-shown-requires : tie.Need-id-shown-requires
 id-shown-requires c κs = search needs
 
--- src/window.rt:51:13
 returns : tie.Need-returns
 unfolding dataRead
 returns c = rw (eq-eqb _ _ (c .before .if1 .taken)) (c .id-shown .ensures)
 
--- src/window.rt:54:13
 returns-2 : tie.Need-returns-2
 unfolding dataRead
 returns-2 c = rw (ne-eqb _ _ (c .before .if1 .left), eq-eqb _ _ (c .if2 .taken))
 
--- src/window.rt:57:13
 id-shown-requires-2 : tie.Need-id-shown-requires-2
 id-shown-requires-2 c κs = search needs
 
--- src/window.rt:57:13
 returns-3 : tie.Need-returns-3
 unfolding dataRead
 returns-3 c = rw (ne-eqb _ _ (c .before .before .before .if1 .left), ne-eqb _ _ (c .before .before .if2 .left), eq-eqb _ _ (c .before .if3 .taken)) (c .id-shown2 .ensures)
 
--- src/window.rt:60:13
 returns-4 : tie.Need-returns-4
 unfolding dataRead
 returns-4 c = rw (ne-eqb _ _ (c .before .before .before .if1 .left), ne-eqb _ _ (c .before .before .if2 .left), ne-eqb _ _ (c .before .if3 .left), lt-ltb _ _ (c .if4 .taken))
 
--- src/window.rt:63:13
 returns-5 : tie.Need-returns-5
 unfolding dataRead
 returns-5 c = rw (ne-eqb _ _ (c .before .before .before .before .if1 .left), ne-eqb _ _ (c .before .before .before .if2 .left), ne-eqb _ _ (c .before .before .if3 .left), le-ltb _ _ (c .before .if4 .left), le-leb _ _ (c .if5 .taken))
 
--- src/window.rt:66:17
 cast-n : tie.Need-cast-n
 cast-n c = search needs
 
--- src/window.rt:68:13
 low-shown-requires : tie.Need-low-shown-requires
 low-shown-requires c κs = search needs
 
--- src/window.rt:70:13
 high-shown-requires : tie.Need-high-shown-requires
 high-shown-requires c κs = search needs
 
--- src/window.rt:46:5
 returns-6 : tie.Need-returns-6
 unfolding dataRead
 returns-6 c =
@@ -66,7 +55,6 @@ returns-6 c =
     let even : (i - 16) % 2 ≡ 0 = omega (arith, and-mask i 1) in
     rw (ne-eqb _ _ (c .before .before .before .before .before .before .before .if1 .left), ne-eqb _ _ (c .before .before .before .before .before .before .if2 .left), ne-eqb _ _ (c .before .before .before .before .before .if3 .left), le-ltb _ _ (c .before .before .before .before .if4 .left), lt-leb _ _ (c .before .before .before .if5 .left), even) (c .low-shown .ensures)
 
--- src/window.rt:46:5
 returns-7 : tie.Need-returns-7
 unfolding dataRead
 returns-7 c =

@@ -1,5 +1,5 @@
-use mathlib.Core.Path.{_≡_, refl, sym, ap, _∙_}
-use borrow.Author.Tests.{not-true, not-false, lt-ltb, le-ltb, le-leb, lt-leb, eq-eqb, ne-eqb}
+use mathlib.Core.Path.{_≡_}
+use borrow.Author.Tests.{lt-ltb, le-ltb, le-leb, lt-leb, eq-eqb, ne-eqb}
 use Prim.Native.Nat.{_-_, _/_, _%_}
 use native.Mathlib.Omega.{arith}
 use lib.Bits.{and-mask}
@@ -12,34 +12,27 @@ use Rattle.controller.proofs.Controller.data_written.Lts as lts
 use Rattle.entries.proofs.Entries.high_written.Reads as high-written-reads
 use Rattle.entries.proofs.Entries.low_written.Reads as low-written-reads
 
--- src/window.rt:113:13
 returns : tie.Need-returns
 unfolding dataWritten
 returns c = rw (eq-eqb _ _ (c .if1 .taken), and-mask (c .before .args .value / 16777216) 4)
 
--- src/window.rt:116:13
 returns-2 : tie.Need-returns-2
 unfolding dataWritten
 returns-2 c = rw (ne-eqb _ _ (c .before .if1 .left), lt-ltb _ _ (c .if2 .taken))
 
--- src/window.rt:119:13
 returns-3 : tie.Need-returns-3
 unfolding dataWritten
 returns-3 c = rw (ne-eqb _ _ (c .before .before .if1 .left), le-ltb _ _ (c .before .if2 .left), le-leb _ _ (c .if3 .taken))
 
--- src/window.rt:122:17
 cast-n : tie.Need-cast-n
 cast-n c = search needs
 
--- src/window.rt:124:13
 low-written-requires : tie.Need-low-written-requires
 low-written-requires c κs = search needs
 
--- src/window.rt:126:13
 high-written-requires : tie.Need-high-written-requires
 high-written-requires c κs = search needs
 
--- src/window.rt:106:5
 returns-4 : tie.Need-returns-4
 unfolding dataWritten
 returns-4 c =
@@ -47,7 +40,6 @@ returns-4 c =
     let even : (i - 16) % 2 ≡ 0 = omega (arith, and-mask i 1) in
     rw (ne-eqb _ _ (c .before .before .before .before .before .if1 .left), le-ltb _ _ (c .before .before .before .before .if2 .left), lt-leb _ _ (c .before .before .before .if3 .left), even, c .low-written .ensures)
 
--- src/window.rt:106:5
 returns-5 : tie.Need-returns-5
 unfolding dataWritten
 returns-5 c =

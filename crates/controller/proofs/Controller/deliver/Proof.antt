@@ -1,5 +1,4 @@
-use mathlib.Core.Path.{_≡_, refl, sym, ap, _∙_}
-use borrow.Author.Tests.{not-true, not-false, lt-ltb, le-ltb, le-leb, lt-leb, eq-eqb, ne-eqb}
+use mathlib.Core.Path.{sym, _∙_}
 use Rattle.controller.specs.Steps.{deliverOf}
 use borrow.Author.Needs.{needs}
 use Rattle.controller.proofs.Controller.deliver.Statement.{statement}
@@ -10,24 +9,19 @@ use Rattle.controller.proofs.Controller.delivering.Reads as delivering-
 use Rattle.controller.proofs.Controller.refused.Reads as refused-reads
 use Rattle.controller.proofs.Controller.well_formed.Reads as well-formed-reads
 
--- src/steps.rt:106:12
 well-formed-requires : tie.Need-well-formed-requires
 well-formed-requires c κs = search needs
 
--- src/steps.rt:107:13
 delivering-requires : tie.Need-delivering-requires
 delivering-requires c κs = search needs
 
--- src/steps.rt:109:13
 refused-requires : tie.Need-refused-requires
 refused-requires c κs = search needs
 
--- src/steps.rt:103:5
 returns : tie.Need-returns
 unfolding deliverOf
 returns c = rw (sym (c .before .before .well-formed .ensures) ∙ c .before .if1 .taken) (c .delivering .ensures)
 
--- src/steps.rt:103:5
 returns-2 : tie.Need-returns-2
 unfolding deliverOf
 returns-2 c = rw (sym (c .before .before .well-formed .ensures) ∙ c .before .if1 .left) (c .refused .ensures)

@@ -22,23 +22,18 @@ sized s =
     let held : length (e .held) ≡ 24 = search needs in
     record { low = low; destination = destination; level = level; held = held }
 
--- src/steps.rt:98:13
 first-eligible-requires : tie.Need-first-eligible-requires
 first-eligible-requires c κs = search needs
 
--- src/steps.rt:100:27
 cast-given : tie.Need-cast-given
 cast-given c = search needs
 
--- src/steps.rt:100:13
 given-requires : tie.Need-given-requires
 given-requires c κs = search needs
 
--- src/steps.rt:105:9
 taken-requires : tie.Need-taken-requires
 taken-requires c κs = search needs
 
--- src/steps.rt:94:5
 returns : tie.Need-returns
 unfolding deliveringOf
 returns c =
@@ -47,8 +42,8 @@ returns c =
     let e = x .before .before .args .self .entries in
     let z = sized (x .before .before) in
     ⊎-elim
-    (λ w. rw (w .2, ← (x .first-eligible .ensures), lt-ltb _ _ (w .0 .taken), c .taken .ensures, w .1 .ensures))
-    (λ w. rw (w .1, ← (x .first-eligible .ensures), le-ltb _ _ (w .0 .left), c .taken .ensures, taken-above e z (x .first-eligible .result) (w .0 .left)))
+    (λ w. rw (w .2, ← (x .first-eligible .ensures), lt-ltb _ 24 (w .0 .taken), c .taken .ensures, w .1 .ensures))
+    (λ w. rw (w .1, ← (x .first-eligible .ensures), le-ltb _ 24 (w .0 .left), c .taken .ensures, taken-above e z (x .first-eligible .result) (w .0 .left)))
     (j .if1 .came)
 
 pub delivering-spec : {M : Type 1} → statement M

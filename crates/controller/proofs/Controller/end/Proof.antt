@@ -1,5 +1,4 @@
-use mathlib.Core.Path.{_≡_, refl, sym, ap, _∙_}
-use borrow.Author.Tests.{not-true, not-false, lt-ltb, le-ltb, le-leb, lt-leb, eq-eqb, ne-eqb}
+use mathlib.Core.Path.{sym, _∙_}
 use Rattle.controller.specs.Steps.{endOf}
 use borrow.Author.Needs.{needs}
 use Rattle.controller.proofs.Controller.end.Statement.{statement}
@@ -10,24 +9,19 @@ use Rattle.controller.proofs.Controller.ending.Reads as ending-reads
 use Rattle.controller.proofs.Controller.refused.Reads as refused-reads
 use Rattle.controller.proofs.Controller.well_formed.Reads as well-formed-reads
 
--- src/steps.rt:74:12
 well-formed-requires : tie.Need-well-formed-requires
 well-formed-requires c κs = search needs
 
--- src/steps.rt:76:29
 ending-requires : tie.Need-ending-requires
 ending-requires c κs = search needs
 
--- src/steps.rt:80:13
 refused-requires : tie.Need-refused-requires
 refused-requires c κs = search needs
 
--- src/steps.rt:71:5
 returns : tie.Need-returns
 unfolding endOf
 returns c = rw (sym (c .before .before .well-formed .ensures) ∙ c .before .if1 .taken, c .ending .ensures)
 
--- src/steps.rt:71:5
 returns-2 : tie.Need-returns-2
 unfolding endOf
 returns-2 c = rw (sym (c .before .before .well-formed .ensures) ∙ c .before .if1 .left) (c .refused .ensures)

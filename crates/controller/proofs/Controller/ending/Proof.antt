@@ -5,11 +5,9 @@ use Rattle.controller.proofs.Controller.ending.Reads as reads
 use Rattle.controller.proofs.Controller.ending.Lts as lts
 use Rattle.entries.proofs.Entries.ended.Reads as ended-reads
 
--- src/steps.rt:67:9
 ended-requires : tie.Need-ended-requires
 ended-requires c κs = search needs
 
--- src/steps.rt:62:5
 returns : tie.Need-returns
 returns c = cc
 

@@ -5,7 +5,6 @@ use Rattle.controller.proofs.Controller.id_shown.Tie as tie
 use Rattle.controller.proofs.Controller.id_shown.Reads as reads
 use Rattle.controller.proofs.Controller.id_shown.Lts as lts
 
--- src/window.rt:39:5
 returns : tie.Need-returns
 returns c = let n = c .before .args .self .id in omega (arith, and-mask n 4)
 

@@ -1,5 +1,4 @@
-use mathlib.Core.Path.{_≡_, refl, sym, ap, _∙_}
-use borrow.Author.Tests.{not-true, not-false, lt-ltb, le-ltb, le-leb, lt-leb, eq-eqb, ne-eqb}
+use mathlib.Core.Path.{sym, _∙_}
 use Rattle.controller.specs.Window.{readOf}
 use borrow.Author.Needs.{needs}
 use Rattle.controller.proofs.Controller.read.Statement.{statement}
@@ -10,24 +9,19 @@ use Rattle.controller.proofs.Controller.reading.Reads as reading-reads
 use Rattle.controller.proofs.Controller.refused.Reads as refused-reads
 use Rattle.controller.proofs.Controller.well_formed.Reads as well-formed-reads
 
--- src/window.rt:98:12
 well-formed-requires : tie.Need-well-formed-requires
 well-formed-requires c κs = search needs
 
--- src/window.rt:99:13
 reading-requires : tie.Need-reading-requires
 reading-requires c κs = search needs
 
--- src/window.rt:101:13
 refused-requires : tie.Need-refused-requires
 refused-requires c κs = search needs
 
--- src/window.rt:95:5
 returns : tie.Need-returns
 unfolding readOf
 returns c = rw (sym (c .before .before .well-formed .ensures) ∙ c .before .if1 .taken) (c .reading .ensures)
 
--- src/window.rt:95:5
 returns-2 : tie.Need-returns-2
 unfolding readOf
 returns-2 c = rw (sym (c .before .before .well-formed .ensures) ∙ c .before .if1 .left) (c .refused .ensures)

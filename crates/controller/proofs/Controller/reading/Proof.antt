@@ -1,5 +1,4 @@
-use mathlib.Core.Path.{_≡_, refl, sym, ap, _∙_}
-use borrow.Author.Tests.{not-true, not-false, lt-ltb, le-ltb, le-leb, lt-leb, eq-eqb, ne-eqb}
+use borrow.Author.Tests.{eq-eqb, ne-eqb}
 use Rattle.controller.specs.Window.{readingOf}
 use borrow.Author.Needs.{needs}
 use Rattle.controller.proofs.Controller.reading.Statement.{statement}
@@ -9,42 +8,33 @@ use Rattle.controller.proofs.Controller.reading.Lts as lts
 use Rattle.controller.proofs.Controller.data_read.Reads as data-read-reads
 use Rattle.controller.proofs.Controller.refused.Reads as refused-reads
 
--- src/window.rt:78:13
 refused-requires : tie.Need-refused-requires
 refused-requires c κs = search needs
 
--- src/window.rt:78:13
 returns : tie.Need-returns
 unfolding readingOf
 returns c = rw (ne-eqb _ _ (c .before .if1 .taken)) (c .refused .ensures)
 
--- src/window.rt:83:39
 cast-t6 : tie.Need-cast-t6
 cast-t6 c = search needs
 
--- src/window.rt:81:13
 returns-2 : tie.Need-returns-2
 unfolding readingOf
 returns-2 c = rw (eq-eqb _ _ (c .before .before .if1 .left), eq-eqb _ _ (c .before .if2 .taken))
 
--- src/window.rt:89:39
 data-read-requires : tie.Need-data-read-requires
 data-read-requires c κs = search needs
 
--- src/window.rt:89:39
 cast-t9 : tie.Need-cast-t9
 cast-t9 c = search needs
 
--- src/window.rt:87:13
 returns-3 : tie.Need-returns-3
 unfolding readingOf
 returns-3 c = rw (eq-eqb _ _ (c .before .before .before .if1 .left), ne-eqb _ _ (c .before .before .if2 .left), eq-eqb _ _ (c .before .if3 .taken), c .data-read .ensures)
 
--- src/window.rt:92:9
 refused-requires-2 : tie.Need-refused-requires-2
 refused-requires-2 c κs = search needs
 
--- src/window.rt:74:5
 returns-4 : tie.Need-returns-4
 unfolding readingOf
 returns-4 c = rw (eq-eqb _ _ (c .before .before .before .if1 .left), ne-eqb _ _ (c .before .before .if2 .left), ne-eqb _ _ (c .before .if3 .left)) (c .refused2 .ensures)

@@ -5,11 +5,9 @@ use Rattle.controller.proofs.Controller.reset.Reads as reads
 use Rattle.controller.proofs.Controller.reset.Lts as lts
 use Rattle.entries.proofs.Entries.reset.Reads as reset-reads
 
--- src/state.rt:20:22
 reset-requires : tie.Need-reset-requires
 reset-requires c κs = search needs
 
--- src/state.rt:14:5
 returns : tie.Need-returns
 returns c = cc
 

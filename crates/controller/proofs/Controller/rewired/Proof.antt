@@ -5,11 +5,9 @@ use Rattle.controller.proofs.Controller.rewired.Reads as reads
 use Rattle.controller.proofs.Controller.rewired.Lts as lts
 use Rattle.entries.proofs.Entries.wired.Reads as wired-reads
 
--- src/steps.rt:20:9
 wired-requires : tie.Need-wired-requires
 wired-requires c κs = search needs
 
--- src/steps.rt:15:5
 returns : tie.Need-returns
 returns c = cc
 

@@ -5,11 +5,9 @@ use Rattle.controller.proofs.Controller.rewired_at.Reads as reads
 use Rattle.controller.proofs.Controller.rewired_at.Lts as lts
 use Rattle.entries.proofs.Entries.wired_at.Reads as wired-at-reads
 
--- src/steps.rt:20:9
 wired-at-requires : tie.Need-wired-at-requires
 wired-at-requires c κs = search needs
 
--- src/steps.rt:15:5
 returns : tie.Need-returns
 returns c = cc
 

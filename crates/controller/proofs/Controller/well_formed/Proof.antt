@@ -6,11 +6,9 @@ use Rattle.controller.proofs.Controller.well_formed.Reads as reads
 use Rattle.controller.proofs.Controller.well_formed.Lts as lts
 use Rattle.entries.proofs.Entries.well_formed.Reads as well-formed-reads
 
--- src/state.rt:30:15
 well-formed-requires : tie.Need-well-formed-requires
 well-formed-requires c κs = search needs
 
--- src/state.rt:24:5
 returns : tie.Need-returns
 unfolding wellFormed
 returns c = rw (c .well-formed .ensures)

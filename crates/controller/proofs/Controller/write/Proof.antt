@@ -1,5 +1,4 @@
-use mathlib.Core.Path.{_≡_, refl, sym, ap, _∙_}
-use borrow.Author.Tests.{not-true, not-false, lt-ltb, le-ltb, le-leb, lt-leb, eq-eqb, ne-eqb}
+use mathlib.Core.Path.{sym, _∙_}
 use Rattle.controller.specs.Window.{writeOf}
 use borrow.Author.Needs.{needs}
 use Rattle.controller.proofs.Controller.write.Statement.{statement}
@@ -10,24 +9,19 @@ use Rattle.controller.proofs.Controller.refused.Reads as refused-reads
 use Rattle.controller.proofs.Controller.well_formed.Reads as well-formed-reads
 use Rattle.controller.proofs.Controller.writing.Reads as writing-reads
 
--- src/window.rt:160:12
 well-formed-requires : tie.Need-well-formed-requires
 well-formed-requires c κs = search needs
 
--- src/window.rt:161:13
 writing-requires : tie.Need-writing-requires
 writing-requires c κs = search needs
 
--- src/window.rt:163:13
 refused-requires : tie.Need-refused-requires
 refused-requires c κs = search needs
 
--- src/window.rt:157:5
 returns : tie.Need-returns
 unfolding writeOf
 returns c = rw (sym (c .before .before .well-formed .ensures) ∙ c .before .if1 .taken) (c .writing .ensures)
 
--- src/window.rt:157:5
 returns-2 : tie.Need-returns-2
 unfolding writeOf
 returns-2 c = rw (sym (c .before .before .well-formed .ensures) ∙ c .before .if1 .left) (c .refused .ensures)

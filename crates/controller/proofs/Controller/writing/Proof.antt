@@ -1,7 +1,7 @@
-use mathlib.Core.Path.{_≡_, refl, sym, ap, _∙_}
-use borrow.Author.Tests.{not-true, not-false, lt-ltb, le-ltb, le-leb, lt-leb, eq-eqb, ne-eqb}
+use mathlib.Core.Path.{_≡_}
+use borrow.Author.Tests.{lt-ltb, le-ltb, eq-eqb, ne-eqb}
 use Prim.Native.Nat.{_^_}
-use mathlib.Core.Bool.{Bool, true, false, not, _&&_, _||_}
+use mathlib.Core.Bool.{true}
 use native.Mathlib.Omega.{arith}
 use lib.Bits.{and-mask}
 use lib.Dec.{ltb, eqb}
@@ -15,42 +15,34 @@ use Rattle.controller.proofs.Controller.writing.Lts as lts
 use Rattle.controller.proofs.Controller.data_written.Reads as data-written-reads
 use Rattle.controller.proofs.Controller.refused.Reads as refused-reads
 
--- src/window.rt:135:13
 refused-requires : tie.Need-refused-requires
 refused-requires c κs = search needs
 
--- src/window.rt:135:13
 returns : tie.Need-returns
 unfolding writingOf
 returns c = rw (ne-eqb _ _ (c .before .if1 .taken)) (c .refused .ensures)
 
--- src/window.rt:138:13
 refused-requires-2 : tie.Need-refused-requires-2
 refused-requires-2 c κs = search needs
 
--- src/window.rt:138:13
 returns-2 : tie.Need-returns-2
 unfolding writingOf
 returns-2 c =
     let o = c .before .before .before .args .offset in
     rw (eq-eqb _ _ (c .before .before .if1 .left), neither (eqb o 0) (eqb o 16) (c .before .if2 .taken)) (c .refused2 .ensures)
 
--- src/window.rt:141:13
 refused-requires-3 : tie.Need-refused-requires-3
 refused-requires-3 c κs = search needs
 
--- src/window.rt:141:13
 returns-3 : tie.Need-returns-3
 unfolding writingOf
 returns-3 c =
     let o = c .before .before .before .before .args .offset in
     rw (eq-eqb _ _ (c .before .before .before .if1 .left), either (eqb o 0) (eqb o 16) (c .before .before .if2 .left), le-ltb _ _ (c .before .if3 .taken)) (c .refused3 .ensures)
 
--- src/window.rt:145:26
 cast-next : tie.Need-cast-next
 cast-next c = omega (arith, and-mask (c .before .before .before .before .args .value) 8)
 
--- src/window.rt:146:13
 returns-4 : tie.Need-returns-4
 unfolding writingOf
 returns-4 c =
@@ -58,15 +50,12 @@ returns-4 c =
     let small : ltb v (2 ^ 32) ≡ true = lt-ltb v (2 ^ 32) (omega arith) in
     rw (eq-eqb _ _ (c .before .before .before .if1 .left), eq-eqb _ _ (c .if4 .taken), small, and-mask v 8)
 
--- src/window.rt:152:43
 cast-data-written : tie.Need-cast-data-written
 cast-data-written c = search needs
 
--- src/window.rt:152:25
 data-written-requires : tie.Need-data-written-requires
 data-written-requires c κs = search needs
 
--- src/window.rt:131:5
 returns-5 : tie.Need-returns-5
 unfolding writingOf
 returns-5 c =

@@ -6,7 +6,7 @@ use Rattle.pins.specs.Pins.{tab}
 use Rattle.pins.proofs.Fill.{fill-more, fill-all}
 use native.Mathlib.Omega.{arith}
 use Rattle.entries.specs.Word.{activeLowOf}
-use Rattle.entries.specs.Table.{activeLows}
+use Rattle.entries.specs.Inner.{activeLows}
 use Rattle.entries.proofs.Entries.active_lows.Statement.{statement}
 use Rattle.entries.proofs.Entries.active_lows.Tie as tie
 use Rattle.entries.proofs.Entries.active_lows.Reads as reads
@@ -25,36 +25,28 @@ Inv-loop low lows₀ i₀ lows i = (i ≤ 24) × (lows ≡ tab (at low) 0 i ++ d
 abbrev μ-loop : tie.MeasureT-loop
 μ-loop low lows₀ i₀ lows i = 24 - i
 
--- src/table.rt:125:9
 loop-holds : tie.Need-loop-holds Inv-loop μ-loop
 unfolding tab
 loop-holds c = (omega arith, refl)
 
--- src/table.rt:126:27
 mul-t7 : tie.Need-mul-t7 Inv-loop μ-loop
 mul-t7 c = omega arith
 
--- src/table.rt:126:27
 array-read-t10 : tie.Need-array-read-t10 Inv-loop μ-loop
 array-read-t10 c = omega arith
 
--- src/table.rt:126:23
 active-low-requires : tie.Need-active-low-requires Inv-loop μ-loop
 active-low-requires c κs = tt
 
--- src/table.rt:126:13
 array-write-lows : tie.Need-array-write-lows Inv-loop μ-loop
 array-write-lows c = omega arith
 
--- src/table.rt:127:13
 add-i : tie.Need-add-i Inv-loop μ-loop
 add-i c = omega arith
 
--- src/table.rt:125:9
 loop-less : tie.Need-loop-less Inv-loop μ-loop
 loop-less c = omega arith
 
--- src/table.rt:125:9
 loop-again : tie.Need-loop-again Inv-loop μ-loop
 loop-again c =
     let a = c .before .before in
@@ -65,7 +57,6 @@ loop-again c =
           ∙ fill-more f (a .loop .i) zeros (omega arith),
     )
 
--- src/table.rt:120:5
 returns : tie.Need-returns Inv-loop μ-loop
 unfolding activeLows
 returns c =

@@ -7,15 +7,12 @@ use Rattle.entries.proofs.Entries.destination_at.Tie as tie
 use Rattle.entries.proofs.Entries.destination_at.Reads as reads
 use Rattle.entries.proofs.Entries.destination_at.Lts as lts
 
--- src/table.rt:181:32
 array-read-result : tie.Need-array-read-result
 array-read-result c = search needs
 
--- src/table.rt:177:5
 returns : tie.Need-returns
 returns c = search needs
 
--- src/table.rt:177:5
 returns-2 : tie.Need-returns-2
 returns-2 c =
     let e = c .before .before .args .self in

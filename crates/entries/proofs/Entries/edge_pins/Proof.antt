@@ -6,8 +6,8 @@ use Rattle.pins.specs.Pins.{tab}
 use Rattle.pins.proofs.Fill.{fill-more, fill-all}
 use native.Mathlib.Omega.{arith}
 use mir.Val.{boolByte}
-use Rattle.entries.specs.Pin.{takesEdges}
-use Rattle.entries.specs.Table.{edgePins}
+use Rattle.entries.specs.Inner.{takesEdges}
+use Rattle.entries.specs.Inner.{edgePins}
 use Rattle.entries.proofs.Entries.edge_pins.Statement.{statement}
 use Rattle.entries.proofs.Entries.edge_pins.Tie as tie
 use Rattle.entries.proofs.Entries.edge_pins.Reads as reads
@@ -26,40 +26,31 @@ Inv-loop low edges₀ i₀ edges i = (i ≤ 24) × (edges ≡ tab (at low) 0 i +
 abbrev μ-loop : tie.MeasureT-loop
 μ-loop low edges₀ i₀ edges i = 24 - i
 
--- src/table.rt:113:9
 loop-holds : tie.Need-loop-holds Inv-loop μ-loop
 unfolding tab
 loop-holds c = (omega arith, refl)
 
--- src/table.rt:114:28
 mul-t6 : tie.Need-mul-t6 Inv-loop μ-loop
 mul-t6 c = omega arith
 
--- src/table.rt:114:28
 array-read-t9 : tie.Need-array-read-t9 Inv-loop μ-loop
 array-read-t9 c = omega arith
 
--- src/table.rt:114:24
 takes-edges-requires : tie.Need-takes-edges-requires Inv-loop μ-loop
 takes-edges-requires c κs = tt
 
--- src/table.rt:114:24
 cast-edges : tie.Need-cast-edges Inv-loop μ-loop
 cast-edges c = tt
 
--- src/table.rt:114:13
 array-write-edges : tie.Need-array-write-edges Inv-loop μ-loop
 array-write-edges c = omega arith
 
--- src/table.rt:115:13
 add-i : tie.Need-add-i Inv-loop μ-loop
 add-i c = omega arith
 
--- src/table.rt:113:9
 loop-less : tie.Need-loop-less Inv-loop μ-loop
 loop-less c = omega arith
 
--- src/table.rt:113:9
 loop-again : tie.Need-loop-again Inv-loop μ-loop
 loop-again c =
     let a = c .before .before in
@@ -70,7 +61,6 @@ loop-again c =
           ∙ fill-more f (a .loop .i) zeros (omega arith),
     )
 
--- src/table.rt:108:5
 returns : tie.Need-returns Inv-loop μ-loop
 unfolding edgePins
 returns c =

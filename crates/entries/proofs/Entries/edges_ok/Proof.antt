@@ -7,7 +7,7 @@ use lib.ListN.{getD}
 use Rattle.pins.specs.Pins.{allFrom}
 use Rattle.pins.proofs.Scan.{all-more}
 use Rattle.entries.specs.Word.{levelOf}
-use Rattle.entries.specs.Table.{edgesOk}
+use Rattle.entries.specs.Inner.{edgesOk}
 use native.Mathlib.Omega.{arith}
 use Rattle.entries.proofs.Entries.edges_ok.Statement.{statement}
 use Rattle.entries.proofs.Entries.edges_ok.Tie as tie
@@ -24,36 +24,28 @@ Inv-loop low held ok₀ i₀ ok i = (i ≤ 24) × (ok ≡ allFrom (fits low held
 abbrev μ-loop : tie.MeasureT-loop
 μ-loop low held ok₀ i₀ ok i = 24 - i
 
--- src/table.rt:44:9
 loop-holds : tie.Need-loop-holds Inv-loop μ-loop
 unfolding allFrom
 loop-holds c = (omega arith, refl)
 
--- src/table.rt:45:29
 mul-t8 : tie.Need-mul-t8 Inv-loop μ-loop
 mul-t8 c = omega arith
 
--- src/table.rt:45:29
 array-read-t11 : tie.Need-array-read-t11 Inv-loop μ-loop
 array-read-t11 c = omega arith
 
--- src/table.rt:45:25
 is-level-requires : tie.Need-is-level-requires Inv-loop μ-loop
 is-level-requires c κs = tt
 
--- src/table.rt:45:51
 array-read-ok : tie.Need-array-read-ok Inv-loop μ-loop
 array-read-ok c = omega arith
 
--- src/table.rt:46:13
 add-i : tie.Need-add-i Inv-loop μ-loop
 add-i c = omega arith
 
--- src/table.rt:44:9
 loop-less : tie.Need-loop-less Inv-loop μ-loop
 loop-less c = omega arith
 
--- src/table.rt:44:9
 loop-again : tie.Need-loop-again Inv-loop μ-loop
 loop-again c =
     let a = c .before .before in
@@ -63,7 +55,6 @@ loop-again c =
       ap₂ (λ (x y : Bool). x && not (y && eqb (getD h (a .loop .i) 0) 1)) (a .loop .inv .1) (c .is-level .ensures) ∙ all-more (fits w h) (a .loop .i),
     )
 
--- src/table.rt:39:5
 returns : tie.Need-returns Inv-loop μ-loop
 unfolding edgesOk
 returns c =

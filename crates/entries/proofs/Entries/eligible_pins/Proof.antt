@@ -9,7 +9,7 @@ use lib.ListN.{getD}
 use Rattle.pins.specs.Pins.{bitsFrom}
 use Rattle.pins.proofs.Digits.{bits-more}
 use Rattle.entries.specs.Pin.{eligible}
-use Rattle.entries.specs.Table.{eligiblePins}
+use Rattle.entries.specs.Inner.{eligiblePins}
 use native.Mathlib.Omega.{arith}
 use Rattle.entries.proofs.Entries.eligible_pins.Statement.{statement}
 use Rattle.entries.proofs.Entries.eligible_pins.Tie as tie
@@ -26,44 +26,34 @@ Inv-loop low level held mask₀ i₀ mask i = (i ≤ 24) × (mask ≡ bitsFrom (
 abbrev μ-loop : tie.MeasureT-loop
 μ-loop low level held mask₀ i₀ mask i = i
 
--- src/table.rt:99:9
 loop-holds : tie.Need-loop-holds Inv-loop μ-loop
 unfolding bitsFrom
 loop-holds c = (omega arith, refl)
 
--- src/table.rt:100:13
 sub-i : tie.Need-sub-i Inv-loop μ-loop
 sub-i c = omega arith
 
--- src/table.rt:101:36
 mul-t9 : tie.Need-mul-t9 Inv-loop μ-loop
 mul-t9 c = omega arith
 
--- src/table.rt:101:36
 array-read-t12 : tie.Need-array-read-t12 Inv-loop μ-loop
 array-read-t12 c = omega arith
 
--- src/table.rt:101:53
 array-read-eligible : tie.Need-array-read-eligible Inv-loop μ-loop
 array-read-eligible c = omega arith
 
--- src/table.rt:101:63
 array-read-eligible-2 : tie.Need-array-read-eligible-2 Inv-loop μ-loop
 array-read-eligible-2 c = omega arith
 
--- src/table.rt:101:32
 eligible-requires : tie.Need-eligible-requires Inv-loop μ-loop
 eligible-requires c κs = tt
 
--- src/table.rt:101:32
 cast-mask : tie.Need-cast-mask Inv-loop μ-loop
 cast-mask c = tt
 
--- src/table.rt:99:9
 loop-less : tie.Need-loop-less Inv-loop μ-loop
 loop-less c = omega arith
 
--- src/table.rt:99:9
 loop-again : tie.Need-loop-again Inv-loop μ-loop
 loop-again c =
     let a = c .before .before in (
@@ -72,7 +62,6 @@ loop-again c =
           ∙ bits-more _ 24 (a .loop .i) (c .before .loop-test .taken) (a .loop .inv .0) (lit≤ tt),
     )
 
--- src/table.rt:91:5
 returns : tie.Need-returns Inv-loop μ-loop
 unfolding eligiblePins
 returns c =

@@ -1,4 +1,4 @@
-use mathlib.Core.Path.{_≡_, refl, sym, ap, _∙_}
+use mathlib.Core.Path.{_≡_, refl, ap, _∙_}
 use mathlib.Core.List.{List, _++_}
 use Prim.Native.Nat.{ℕ, _-_, _≤_}
 use borrow.Author.Needs.{needs}
@@ -23,40 +23,31 @@ Inv-loop self vector low₀ i₀ low i = (i ≤ 24) × (low ≡ tab (after low�
 abbrev μ-loop : tie.MeasureT-loop
 μ-loop self vector low₀ i₀ low i = 24 - i
 
--- src/table.rt:152:9
 loop-holds : tie.Need-loop-holds Inv-loop μ-loop
 unfolding tab
 loop-holds c = (omega arith, refl)
 
--- src/table.rt:153:26
 mul-t10 : tie.Need-mul-t10 Inv-loop μ-loop
 mul-t10 c = omega arith
 
--- src/table.rt:153:26
 array-read-t13 : tie.Need-array-read-t13 Inv-loop μ-loop
 array-read-t13 c = omega arith
 
--- src/table.rt:153:22
 ended-requires : tie.Need-ended-requires Inv-loop μ-loop
 ended-requires c κs = tt
 
--- src/table.rt:153:13
 mul-low : tie.Need-mul-low Inv-loop μ-loop
 mul-low c = omega arith
 
--- src/table.rt:153:13
 array-write-low : tie.Need-array-write-low Inv-loop μ-loop
 array-write-low c = omega arith
 
--- src/table.rt:154:13
 add-i : tie.Need-add-i Inv-loop μ-loop
 add-i c = omega arith
 
--- src/table.rt:152:9
 loop-less : tie.Need-loop-less Inv-loop μ-loop
 loop-less c = omega arith
 
--- src/table.rt:152:9
 loop-again : tie.Need-loop-again Inv-loop μ-loop
 loop-again c =
     let a = c .before .before in
@@ -70,7 +61,6 @@ loop-again c =
           ∙ fill-more f (a .loop .i) w (omega arith),
     )
 
--- src/table.rt:147:5
 returns : tie.Need-returns Inv-loop μ-loop
 unfolding ended
 returns c =

@@ -4,7 +4,7 @@ use mathlib.Core.List.{List}
 use Prim.Native.Nat.{ℕ, _-_, _≤_}
 use lib.ListN.{getD}
 use Rattle.pins.specs.Pins.{firstFrom, first}
-use Rattle.pins.proofs.Scan.{first-next, first-here, first-end}
+use Rattle.pins.proofs.Scan.{scan-next, scan-here, scan-end}
 use Rattle.entries.specs.Pin.{eligible}
 use Rattle.entries.specs.Table.{firstEligible}
 use native.Mathlib.Omega.{arith}
@@ -23,55 +23,44 @@ Inv-loop low level held i₀ i = (i ≤ 24) × (first (waits low level held) ≡
 abbrev μ-loop : tie.MeasureT-loop
 μ-loop low level held i₀ i = 24 - i
 
--- src/table.rt:82:9
 loop-holds : tie.Need-loop-holds Inv-loop μ-loop
 loop-holds c = (omega arith, refl)
 
--- src/table.rt:83:20
 mul-t8 : tie.Need-mul-t8 Inv-loop μ-loop
 mul-t8 c = omega arith
 
--- src/table.rt:83:20
 array-read-t11 : tie.Need-array-read-t11 Inv-loop μ-loop
 array-read-t11 c = omega arith
 
--- src/table.rt:83:37
 array-read-eligible : tie.Need-array-read-eligible Inv-loop μ-loop
 array-read-eligible c = omega arith
 
--- src/table.rt:83:47
 array-read-eligible-2 : tie.Need-array-read-eligible-2 Inv-loop μ-loop
 array-read-eligible-2 c = omega arith
 
--- src/table.rt:83:16
 eligible-requires : tie.Need-eligible-requires Inv-loop μ-loop
 eligible-requires c κs = tt
 
--- src/table.rt:84:17
 returns : tie.Need-returns Inv-loop μ-loop
 unfolding firstEligible
 returns c =
     let a = c .before .before .before in
-    sym (a .loop .inv .1 ∙ first-here _ 24 (a .loop .i) (c .before .before .loop-test .taken) (sym (c .before .eligible .ensures) ∙ c .if1 .taken))
+    sym (a .loop .inv .1 ∙ scan-here _ 24 (a .loop .i) (c .before .before .loop-test .taken) (sym (c .before .eligible .ensures) ∙ c .if1 .taken))
 
--- src/table.rt:86:13
 add-i : tie.Need-add-i Inv-loop μ-loop
 add-i c = omega arith
 
--- src/table.rt:82:9
 loop-less : tie.Need-loop-less Inv-loop μ-loop
 loop-less c = omega arith
 
--- src/table.rt:82:9
 loop-again : tie.Need-loop-again Inv-loop μ-loop
 loop-again c =
     let a = c .before .before .before in
-    (omega arith, a .loop .inv .1 ∙ first-next _ 24 (a .loop .i) (c .before .before .loop-test .taken) (sym (c .before .eligible .ensures) ∙ c .if1 .left))
+    (omega arith, a .loop .inv .1 ∙ scan-next _ 24 (a .loop .i) (c .before .before .loop-test .taken) (sym (c .before .eligible .ensures) ∙ c .if1 .left))
 
--- src/table.rt:75:5
 returns-2 : tie.Need-returns-2 Inv-loop μ-loop
 unfolding firstEligible
-returns-2 c = sym (c .before .loop .inv .1 ∙ first-end _ 24 (c .before .loop .i) (c .loop-test .left))
+returns-2 c = sym (c .before .loop .inv .1 ∙ scan-end _ 24 (c .before .loop .i) (c .loop-test .left))
 
 pub first-eligible-spec : {M : Type 1} → statement M
 first-eligible-spec =

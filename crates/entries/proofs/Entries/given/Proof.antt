@@ -8,23 +8,18 @@ use Rattle.entries.proofs.Entries.low_at.Reads as low-at-reads
 use Rattle.entries.proofs.Low.logical.Reads as logical-reads
 use Rattle.entries.proofs.Low.vector.Reads as vector-reads
 
--- src/table.rt:122:23
 low-at-requires : tie.Need-low-at-requires
 low-at-requires c κs = search needs
 
--- src/table.rt:125:21
 vector-requires : tie.Need-vector-requires
 vector-requires c κs = search needs
 
--- src/table.rt:126:26
 destination-at-requires : tie.Need-destination-at-requires
 destination-at-requires c κs = search needs
 
--- src/table.rt:127:22
 logical-requires : tie.Need-logical-requires
 logical-requires c κs = search needs
 
--- src/table.rt:118:5
 returns : tie.Need-returns
 returns c = cc
 

@@ -7,7 +7,6 @@ use Rattle.entries.proofs.Entries.high_written.Tie as tie
 use Rattle.entries.proofs.Entries.high_written.Reads as reads
 use Rattle.entries.proofs.Entries.high_written.Lts as lts
 
--- src/table.rt:268:13
 returns : tie.Need-returns
 returns c =
     let e = c .before .args .self in
@@ -17,15 +16,12 @@ returns c =
     let h : length (e .held) ≡ 24 = search needs in
     sym (high-written-above e (record { low = a; destination = b; level = d; held = h }) (c .before .args .n) (c .if1 .taken) (c .before .args .value))
 
--- src/table.rt:271:26
 cast-destination : tie.Need-cast-destination
 cast-destination c = search needs
 
--- src/table.rt:271:9
 array-write-destination : tie.Need-array-write-destination
 array-write-destination c = search needs
 
--- src/table.rt:264:5
 returns-2 : tie.Need-returns-2
 returns-2 c = search needs
 

@@ -1,4 +1,4 @@
-use mathlib.Core.Path.{_≡_, refl, sym, ap, _∙_}
+use mathlib.Core.Path.{_≡_, refl, ap, _∙_}
 use mathlib.Core.Bool.{Bool, _&&_}
 use mathlib.Core.List.{List}
 use Prim.Native.Nat.{ℕ, _-_, _≤_}
@@ -22,30 +22,24 @@ Inv-loop levels ok₀ i₀ ok i = (i ≤ 24) × (ok ≡ allFrom (low-enough leve
 abbrev μ-loop : tie.MeasureT-loop
 μ-loop levels ok₀ i₀ ok i = 24 - i
 
--- src/table.rt:41:9
 loop-holds : tie.Need-loop-holds Inv-loop μ-loop
 unfolding allFrom
 loop-holds c = (omega arith, refl)
 
--- src/table.rt:42:24
 array-read-ok : tie.Need-array-read-ok Inv-loop μ-loop
 array-read-ok c = omega arith
 
--- src/table.rt:43:13
 add-i : tie.Need-add-i Inv-loop μ-loop
 add-i c = omega arith
 
--- src/table.rt:41:9
 loop-less : tie.Need-loop-less Inv-loop μ-loop
 loop-less c = omega arith
 
--- src/table.rt:41:9
 loop-again : tie.Need-loop-again Inv-loop μ-loop
 loop-again c =
     let a = c .before in
     (omega arith, ap (λ (b : Bool). b && low-enough (a .before .args .t1) (a .loop .i)) (a .loop .inv .1) ∙ all-more (low-enough (a .before .args .t1)) (a .loop .i))
 
--- src/table.rt:36:5
 returns : tie.Need-returns Inv-loop μ-loop
 unfolding levelsOk
 returns c =

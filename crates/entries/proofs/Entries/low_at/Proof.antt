@@ -7,19 +7,15 @@ use Rattle.entries.proofs.Entries.low_at.Tie as tie
 use Rattle.entries.proofs.Entries.low_at.Reads as reads
 use Rattle.entries.proofs.Entries.low_at.Lts as lts
 
--- src/table.rt:174:32
 mul-result : tie.Need-mul-result
 mul-result c = search needs
 
--- src/table.rt:174:32
 array-read-result : tie.Need-array-read-result
 array-read-result c = search needs
 
--- src/table.rt:170:5
 returns : tie.Need-returns
 returns c = search needs
 
--- src/table.rt:170:5
 returns-2 : tie.Need-returns-2
 returns-2 c =
     let e = c .before .before .args .self in

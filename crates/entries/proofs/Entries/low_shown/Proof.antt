@@ -1,4 +1,4 @@
-use mathlib.Core.Path.{_≡_, sym, ap, _∙_}
+use mathlib.Core.Path.{_≡_, sym, _∙_}
 use lib.ListN.{length}
 use Rattle.entries.proofs.Sized.{low-shown-above}
 use Rattle.entries.specs.Table.{lowShown}
@@ -10,7 +10,6 @@ use Rattle.entries.proofs.Entries.low_shown.Lts as lts
 use Rattle.entries.proofs.Low.eligible.Reads as eligible-reads
 use Rattle.entries.proofs.Low.shown.Reads as shown-reads
 
--- src/table.rt:226:13
 returns : tie.Need-returns
 returns c =
     let e = c .before .args .self in
@@ -20,31 +19,24 @@ returns c =
     let h : length (e .held) ≡ 24 = search needs in
     sym (low-shown-above e (record { low = a; destination = b; level = d; held = h }) (c .before .args .n) (c .if1 .taken))
 
--- src/table.rt:231:23
 mul-t8 : tie.Need-mul-t8
 mul-t8 c = search needs
 
--- src/table.rt:231:23
 array-read-t11 : tie.Need-array-read-t11
 array-read-t11 c = search needs
 
--- src/table.rt:232:32
 array-read-eligible : tie.Need-array-read-eligible
 array-read-eligible c = search needs
 
--- src/table.rt:232:42
 array-read-eligible-2 : tie.Need-array-read-eligible-2
 array-read-eligible-2 c = search needs
 
--- src/table.rt:232:19
 eligible-requires : tie.Need-eligible-requires
 eligible-requires c κs = search needs
 
--- src/table.rt:232:9
 shown-requires : tie.Need-shown-requires
 shown-requires c κs = search needs
 
--- src/table.rt:222:5
 returns-2 : tie.Need-returns-2
 unfolding lowShown
 returns-2 c = c .shown .ensures ∙ rw (c .before .eligible .ensures)

@@ -11,39 +11,30 @@ use Rattle.entries.proofs.Entries.taken.Lts as lts
 use Rattle.entries.proofs.Low.held_taken.Reads as held-taken-reads
 use Rattle.entries.proofs.Low.taken.Reads as taken-reads
 
--- src/table.rt:204:27
 mul-words : tie.Need-mul-words
 mul-words c = search needs
 
--- src/table.rt:204:27
 array-read-words : tie.Need-array-read-words
 array-read-words c = search needs
 
--- src/table.rt:205:24
 taken-requires : tie.Need-taken-requires
 taken-requires c κs = search needs
 
--- src/table.rt:205:13
 mul-words-2 : tie.Need-mul-words-2
 mul-words-2 c = search needs
 
--- src/table.rt:205:13
 array-write-words : tie.Need-array-write-words
 array-write-words c = search needs
 
--- src/table.rt:206:38
 array-read-held-taken : tie.Need-array-read-held-taken
 array-read-held-taken c = search needs
 
--- src/table.rt:206:23
 held-taken-requires : tie.Need-held-taken-requires
 held-taken-requires c κs = search needs
 
--- src/table.rt:206:13
 array-write-held : tie.Need-array-write-held
 array-write-held c = search needs
 
--- src/table.rt:198:5
 returns : tie.Need-returns
 returns c =
     let j = c .before .before in

@@ -1,4 +1,4 @@
-use mathlib.Core.Path.{_≡_, sym}
+use mathlib.Core.Path.{sym}
 use Rattle.entries.proofs.Apart.{ok-apart}
 use borrow.Author.Needs.{needs}
 use Rattle.entries.proofs.Entries.well_formed.Statement.{statement}
@@ -9,23 +9,18 @@ use Rattle.entries.proofs.Entries.edges_ok.Reads as edges-ok-reads
 use Rattle.entries.proofs.Entries.levels_ok.Reads as levels-ok-reads
 use Rattle.entries.proofs.Entries.words_ok.Reads as words-ok-reads
 
--- src/table.rt:58:9
 words-ok-requires : tie.Need-words-ok-requires
 words-ok-requires c κs = search needs
 
--- src/table.rt:59:16
 edges-ok-requires : tie.Need-edges-ok-requires
 edges-ok-requires c κs = search needs
 
--- src/table.rt:60:20
 levels-ok-requires : tie.Need-levels-ok-requires
 levels-ok-requires c κs = search needs
 
--- src/table.rt:60:48
 levels-ok-requires-2 : tie.Need-levels-ok-requires-2
 levels-ok-requires-2 c κs = search needs
 
--- src/table.rt:52:5
 returns : tie.Need-returns
 returns c =
     rw (c .before .before .before .words-ok .ensures, c .before .before .edges-ok .ensures, c .before .levels-ok .ensures, c .levels-ok2 .ensures)

@@ -5,7 +5,7 @@ use borrow.Author.Needs.{needs}
 use lib.ListN.{length, set, drop, getD}
 use Rattle.pins.specs.Pins.{tab, pins}
 use Rattle.pins.proofs.Fill.{fill-more, fill-all, fill-here}
-use Rattle.entries.specs.Pin.{heldBy}
+use Rattle.entries.specs.Inner.{heldBy}
 use Rattle.entries.specs.Table.{withHeld, withLevel, wired}
 use Rattle.entries.proofs.Edges.{wired-by}
 use native.Mathlib.Omega.{arith}
@@ -29,56 +29,43 @@ abbrev μ-loop : tie.MeasureT-loop
 long : (s : tie.Start Inv-loop μ-loop) → length (s .args .self .held) ≡ 24
 long s = search needs
 
--- src/table.rt:137:21
 edge-pins-requires : tie.Need-edge-pins-requires Inv-loop μ-loop
 edge-pins-requires c κs = tt
 
--- src/table.rt:138:20
 active-lows-requires : tie.Need-active-lows-requires Inv-loop μ-loop
 active-lows-requires c κs = tt
 
--- src/table.rt:141:9
 loop-holds : tie.Need-loop-holds Inv-loop μ-loop
 unfolding tab
 loop-holds c = (omega arith, refl)
 
--- src/table.rt:142:31
 array-read-held-by : tie.Need-array-read-held-by Inv-loop μ-loop
 array-read-held-by c = omega arith
 
--- src/table.rt:142:41
 array-read-held-by-2 : tie.Need-array-read-held-by-2 Inv-loop μ-loop
 array-read-held-by-2 c = omega arith
 
--- src/table.rt:142:50
 array-read-held-by-3 : tie.Need-array-read-held-by-3 Inv-loop μ-loop
 array-read-held-by-3 c = omega arith
 
--- src/table.rt:142:60
 array-read-held-by-4 : tie.Need-array-read-held-by-4 Inv-loop μ-loop
 array-read-held-by-4 c = omega arith
 
--- src/table.rt:142:71
 array-read-held-by-5 : tie.Need-array-read-held-by-5 Inv-loop μ-loop
 array-read-held-by-5 c = omega arith
 
--- src/table.rt:142:23
 held-by-requires : tie.Need-held-by-requires Inv-loop μ-loop
 held-by-requires c κs = tt
 
--- src/table.rt:142:13
 array-write-held : tie.Need-array-write-held Inv-loop μ-loop
 array-write-held c = omega arith
 
--- src/table.rt:143:13
 add-i : tie.Need-add-i Inv-loop μ-loop
 add-i c = omega arith
 
--- src/table.rt:141:9
 loop-less : tie.Need-loop-less Inv-loop μ-loop
 loop-less c = omega arith
 
--- src/table.rt:141:9
 loop-again : tie.Need-loop-again Inv-loop μ-loop
 loop-again c =
     let a = c .before .before in
@@ -96,7 +83,6 @@ loop-again c =
           ∙ fill-more f (a .loop .i) (e .held) (omega arith),
     )
 
--- src/table.rt:132:5
 returns : tie.Need-returns Inv-loop μ-loop
 unfolding wired
 returns c =

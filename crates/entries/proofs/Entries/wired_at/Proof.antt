@@ -1,7 +1,7 @@
-use mathlib.Core.Path.{_≡_, sym, ap, _∙_}
+use mathlib.Core.Path.{_≡_, sym}
 use lib.ListN.{length}
 use Rattle.entries.proofs.Sized.{wired-at-above}
-use Rattle.entries.specs.Table.{wiredAt}
+use Rattle.entries.specs.Inner.{wiredAt}
 use borrow.Author.Needs.{needs}
 use Rattle.entries.proofs.Entries.wired_at.Statement.{statement}
 use Rattle.entries.proofs.Entries.wired_at.Tie as tie
@@ -9,7 +9,6 @@ use Rattle.entries.proofs.Entries.wired_at.Reads as reads
 use Rattle.entries.proofs.Entries.wired_at.Lts as lts
 use Rattle.entries.proofs.Low.held_after.Reads as held-after-reads
 
--- src/table.rt:131:13
 returns : tie.Need-returns
 returns c =
     let e = c .before .args .self in
@@ -19,35 +18,27 @@ returns c =
     let h : length (e .held) ≡ 24 = search needs in
     sym (wired-at-above e (record { low = a; destination = b; level = d; held = h }) (c .before .args .n) (c .if1 .taken) (c .before .args .level))
 
--- src/table.rt:136:23
 mul-t10 : tie.Need-mul-t10
 mul-t10 c = search needs
 
--- src/table.rt:136:23
 array-read-t13 : tie.Need-array-read-t13
 array-read-t13 c = search needs
 
--- src/table.rt:136:42
 array-read-held-after : tie.Need-array-read-held-after
 array-read-held-after c = search needs
 
--- src/table.rt:136:60
 array-read-held-after-2 : tie.Need-array-read-held-after-2
 array-read-held-after-2 c = search needs
 
--- src/table.rt:136:19
 held-after-requires : tie.Need-held-after-requires
 held-after-requires c κs = search needs
 
--- src/table.rt:136:9
 array-write-held : tie.Need-array-write-held
 array-write-held c = search needs
 
--- src/table.rt:137:9
 array-write-levels : tie.Need-array-write-levels
 array-write-levels c = search needs
 
--- src/table.rt:127:5
 returns-2 : tie.Need-returns-2
 unfolding wiredAt
 returns-2 c = rw (c .before .held-after .ensures)

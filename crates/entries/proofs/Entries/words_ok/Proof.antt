@@ -6,7 +6,7 @@ use lib.ListN.{getD}
 use Rattle.pins.specs.Pins.{allFrom}
 use Rattle.pins.proofs.Scan.{all-more}
 use Rattle.entries.specs.Word.{wordOk}
-use Rattle.entries.specs.Table.{wordsOk}
+use Rattle.entries.specs.Inner.{wordsOk}
 use native.Mathlib.Omega.{arith}
 use Rattle.entries.proofs.Entries.words_ok.Statement.{statement}
 use Rattle.entries.proofs.Entries.words_ok.Tie as tie
@@ -23,38 +23,30 @@ Inv-loop low ok₀ i₀ ok i = (i ≤ 24) × (ok ≡ allFrom (fits low) 0 i)
 abbrev μ-loop : tie.MeasureT-loop
 μ-loop low ok₀ i₀ ok i = 24 - i
 
--- src/table.rt:31:9
 loop-holds : tie.Need-loop-holds Inv-loop μ-loop
 unfolding allFrom
 loop-holds c = (omega arith, refl)
 
--- src/table.rt:32:27
 mul-t6 : tie.Need-mul-t6 Inv-loop μ-loop
 mul-t6 c = omega arith
 
--- src/table.rt:32:27
 array-read-t9 : tie.Need-array-read-t9 Inv-loop μ-loop
 array-read-t9 c = omega arith
 
--- src/table.rt:32:23
 word-ok-requires : tie.Need-word-ok-requires Inv-loop μ-loop
 word-ok-requires c κs = tt
 
--- src/table.rt:33:13
 add-i : tie.Need-add-i Inv-loop μ-loop
 add-i c = omega arith
 
--- src/table.rt:31:9
 loop-less : tie.Need-loop-less Inv-loop μ-loop
 loop-less c = omega arith
 
--- src/table.rt:31:9
 loop-again : tie.Need-loop-again Inv-loop μ-loop
 loop-again c =
     let a = c .before .before in
     (omega arith, ap₂ _&&_ (a .loop .inv .1) (c .word-ok .ensures) ∙ all-more (fits (a .before .args .t1)) (a .loop .i))
 
--- src/table.rt:26:5
 returns : tie.Need-returns Inv-loop μ-loop
 unfolding wordsOk
 returns c =

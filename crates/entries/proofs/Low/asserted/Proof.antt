@@ -6,11 +6,9 @@ use Rattle.entries.proofs.Low.asserted.Reads as reads
 use Rattle.entries.proofs.Low.asserted.Lts as lts
 use Rattle.entries.proofs.Low.active_low.Reads as active-low-reads
 
--- src/pin.rt:10:18
 active-low-requires : tie.Need-active-low-requires
 active-low-requires c κs = search needs
 
--- src/pin.rt:7:5
 returns : tie.Need-returns
 unfolding asserted
 returns c = rw (c .active-low .ensures)

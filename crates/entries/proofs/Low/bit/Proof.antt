@@ -7,15 +7,12 @@ use Rattle.entries.proofs.Low.bit.Tie as tie
 use Rattle.entries.proofs.Low.bit.Reads as reads
 use Rattle.entries.proofs.Low.bit.Lts as lts
 
--- src/word.rt:55:11
 shr-result : tie.Need-shr-result
 shr-result c = search needs
 
--- src/word.rt:55:9
 cast-result : tie.Need-cast-result
 cast-result c = omega (arith, and-mask (c .before .args .self .0 / 2 ^ c .before .args .at) 1)
 
--- src/word.rt:51:5
 returns : tie.Need-returns
 returns c = and-mask (c .before .args .self .0 / 2 ^ c .before .args .at) 1
 

@@ -10,27 +10,21 @@ use Rattle.entries.proofs.Low.is_masked.Reads as is-masked-reads
 use Rattle.entries.proofs.Low.is_remote.Reads as is-remote-reads
 use Rattle.entries.proofs.Low.mode.Reads as mode-reads
 
--- src/pin.rt:32:13
 is-level-requires : tie.Need-is-level-requires
 is-level-requires c κs = search needs
 
--- src/pin.rt:33:10
 is-masked-requires : tie.Need-is-masked-requires
 is-masked-requires c κs = search needs
 
--- src/pin.rt:34:16
 mode-requires : tie.Need-mode-requires
 mode-requires c κs = search needs
 
--- src/pin.rt:35:53
 asserted-requires : tie.Need-asserted-requires
 asserted-requires c κs = search needs
 
--- src/pin.rt:35:77
 is-remote-requires : tie.Need-is-remote-requires
 is-remote-requires c κs = search needs
 
--- src/pin.rt:29:5
 returns : tie.Need-returns
 unfolding eligible
 returns c = cc

@@ -8,24 +8,19 @@ use Rattle.entries.proofs.Low.is_level.Reads as is-level-reads
 use Rattle.entries.proofs.Low.vector.Reads as vector-reads
 use Rattle.entries.proofs.Low.without_remote.Reads as without-remote-reads
 
--- src/pin.rt:41:12
 is-level-requires : tie.Need-is-level-requires
 is-level-requires c κs = search needs
 
--- src/pin.rt:41:31
 vector-requires : tie.Need-vector-requires
 vector-requires c κs = search needs
 
--- src/pin.rt:42:13
 without-remote-requires : tie.Need-without-remote-requires
 without-remote-requires c κs = search needs
 
--- src/pin.rt:38:5
 returns : tie.Need-returns
 unfolding endedWord
 returns c = rw (← (c .before .before .before .is-level .ensures), ← (c .before .before .vector .ensures), c .before .if1 .taken) (c .without-remote .ensures)
 
--- src/pin.rt:38:5
 returns-2 : tie.Need-returns-2
 unfolding endedWord
 returns-2 c = rw (← (c .before .before .is-level .ensures), ← (c .before .vector .ensures), c .if1 .left)

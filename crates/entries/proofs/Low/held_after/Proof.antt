@@ -7,16 +7,13 @@ use Rattle.entries.proofs.Low.held_after.Reads as reads
 use Rattle.entries.proofs.Low.held_after.Lts as lts
 use Rattle.entries.proofs.Low.makes_edge.Reads as makes-edge-reads
 
--- src/pin.rt:22:12
 makes-edge-requires : tie.Need-makes-edge-requires
 makes-edge-requires c κs = search needs
 
--- src/pin.rt:19:5
 returns : tie.Need-returns
 unfolding heldAfter
 returns c = rw (sym (c .before .makes-edge .ensures) ∙ c .if1 .taken)
 
--- src/pin.rt:19:5
 returns-2 : tie.Need-returns-2
 unfolding heldAfter
 returns-2 c = rw (sym (c .before .makes-edge .ensures) ∙ c .if1 .left)

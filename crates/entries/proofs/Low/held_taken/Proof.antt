@@ -1,5 +1,5 @@
-use mathlib.Core.Path.{_≡_, sym, _∙_}
-use Rattle.entries.specs.Pin.{heldTaken}
+use mathlib.Core.Path.{sym, _∙_}
+use Rattle.entries.specs.Inner.{heldTaken}
 use borrow.Author.Needs.{needs}
 use Rattle.entries.proofs.Low.held_taken.Statement.{statement}
 use Rattle.entries.proofs.Low.held_taken.Tie as tie
@@ -7,16 +7,13 @@ use Rattle.entries.proofs.Low.held_taken.Reads as reads
 use Rattle.entries.proofs.Low.held_taken.Lts as lts
 use Rattle.entries.proofs.Low.is_level.Reads as is-level-reads
 
--- src/pin.rt:62:12
 is-level-requires : tie.Need-is-level-requires
 is-level-requires c κs = search needs
 
--- src/pin.rt:59:5
 returns : tie.Need-returns
 unfolding heldTaken
 returns c = rw (sym (c .before .is-level .ensures) ∙ c .if1 .taken)
 
--- src/pin.rt:59:5
 returns-2 : tie.Need-returns-2
 unfolding heldTaken
 returns-2 c = rw (sym (c .before .is-level .ensures) ∙ c .if1 .left)

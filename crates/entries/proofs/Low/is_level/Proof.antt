@@ -6,11 +6,9 @@ use Rattle.entries.proofs.Low.is_level.Reads as reads
 use Rattle.entries.proofs.Low.is_level.Lts as lts
 use Rattle.entries.proofs.Low.bit.Reads as bit-reads
 
--- src/word.rt:79:9
 bit-requires : tie.Need-bit-requires
 bit-requires c κs = search needs
 
--- src/word.rt:76:5
 returns : tie.Need-returns
 unfolding levelOf
 returns c = rw (c .bit .ensures)

@@ -6,11 +6,9 @@ use Rattle.entries.proofs.Low.is_masked.Reads as reads
 use Rattle.entries.proofs.Low.is_masked.Lts as lts
 use Rattle.entries.proofs.Low.bit.Reads as bit-reads
 
--- src/word.rt:85:9
 bit-requires : tie.Need-bit-requires
 bit-requires c κs = search needs
 
--- src/word.rt:82:5
 returns : tie.Need-returns
 unfolding maskedOf
 returns c = rw (c .bit .ensures)

@@ -6,11 +6,9 @@ use Rattle.entries.proofs.Low.is_remote.Reads as reads
 use Rattle.entries.proofs.Low.is_remote.Lts as lts
 use Rattle.entries.proofs.Low.bit.Reads as bit-reads
 
--- src/word.rt:73:9
 bit-requires : tie.Need-bit-requires
 bit-requires c κs = search needs
 
--- src/word.rt:70:5
 returns : tie.Need-returns
 unfolding remoteOf
 returns c = rw (c .bit .ensures)

@@ -8,23 +8,18 @@ use Rattle.entries.proofs.Low.asserted.Reads as asserted-reads
 use Rattle.entries.proofs.Low.is_level.Reads as is-level-reads
 use Rattle.entries.proofs.Low.is_masked.Reads as is-masked-reads
 
--- src/pin.rt:16:10
 is-masked-requires : tie.Need-is-masked-requires
 is-masked-requires c κs = search needs
 
--- src/pin.rt:16:30
 is-level-requires : tie.Need-is-level-requires
 is-level-requires c κs = search needs
 
--- src/pin.rt:16:49
 asserted-requires : tie.Need-asserted-requires
 asserted-requires c κs = search needs
 
--- src/pin.rt:16:73
 asserted-requires-2 : tie.Need-asserted-requires-2
 asserted-requires-2 c κs = search needs
 
--- src/pin.rt:13:5
 returns : tie.Need-returns
 unfolding makesEdge
 returns c = cc

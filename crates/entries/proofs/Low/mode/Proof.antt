@@ -6,7 +6,6 @@ use Rattle.entries.proofs.Low.mode.Tie as tie
 use Rattle.entries.proofs.Low.mode.Reads as reads
 use Rattle.entries.proofs.Low.mode.Lts as lts
 
--- src/word.rt:44:5
 returns : tie.Need-returns
 unfolding modeOf
 returns c = and-mask (c .before .args .self .0 / 256) 3

@@ -6,14 +6,12 @@ use Rattle.entries.proofs.Low.shown.Tie as tie
 use Rattle.entries.proofs.Low.shown.Reads as reads
 use Rattle.entries.proofs.Low.shown.Lts as lts
 
--- src/word.rt:107:5
 returns : tie.Need-returns
 unfolding shown
 returns c =
     let w = c .before .before .args .self .0 in
     rw (c .before .if1 .taken) (omega (arith, or-add-and w 4096, and-high w 1 12))
 
--- src/word.rt:107:5
 returns-2 : tie.Need-returns-2
 unfolding shown
 returns-2 c = rw (c .if1 .left)

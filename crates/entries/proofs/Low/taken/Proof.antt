@@ -1,5 +1,5 @@
-use mathlib.Core.Path.{_≡_, sym, _∙_}
-use Rattle.entries.specs.Pin.{takenWord}
+use mathlib.Core.Path.{sym, _∙_}
+use Rattle.entries.specs.Inner.{takenWord}
 use borrow.Author.Needs.{needs}
 use Rattle.entries.proofs.Low.taken.Statement.{statement}
 use Rattle.entries.proofs.Low.taken.Tie as tie
@@ -8,20 +8,16 @@ use Rattle.entries.proofs.Low.taken.Lts as lts
 use Rattle.entries.proofs.Low.is_level.Reads as is-level-reads
 use Rattle.entries.proofs.Low.with_remote.Reads as with-remote-reads
 
--- src/pin.rt:52:12
 is-level-requires : tie.Need-is-level-requires
 is-level-requires c κs = search needs
 
--- src/pin.rt:53:13
 with-remote-requires : tie.Need-with-remote-requires
 with-remote-requires c κs = search needs
 
--- src/pin.rt:49:5
 returns : tie.Need-returns
 unfolding takenWord
 returns c = rw (sym (c .before .before .is-level .ensures) ∙ c .before .if1 .taken) (c .with-remote .ensures)
 
--- src/pin.rt:49:5
 returns-2 : tie.Need-returns-2
 unfolding takenWord
 returns-2 c = rw (sym (c .before .is-level .ensures) ∙ c .if1 .left)

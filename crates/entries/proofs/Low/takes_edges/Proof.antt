@@ -1,5 +1,4 @@
-use mathlib.Core.Path.{_≡_, sym, _∙_}
-use Rattle.entries.specs.Pin.{takesEdges}
+use Rattle.entries.specs.Inner.{takesEdges}
 use borrow.Author.Needs.{needs}
 use Rattle.entries.proofs.Low.takes_edges.Statement.{statement}
 use Rattle.entries.proofs.Low.takes_edges.Tie as tie
@@ -8,15 +7,12 @@ use Rattle.entries.proofs.Low.takes_edges.Lts as lts
 use Rattle.entries.proofs.Low.is_level.Reads as is-level-reads
 use Rattle.entries.proofs.Low.is_masked.Reads as is-masked-reads
 
--- src/pin.rt:34:10
 is-masked-requires : tie.Need-is-masked-requires
 is-masked-requires c κs = search needs
 
--- src/pin.rt:34:30
 is-level-requires : tie.Need-is-level-requires
 is-level-requires c κs = search needs
 
--- src/pin.rt:31:5
 returns : tie.Need-returns
 unfolding takesEdges
 returns c = rw (c .before .is-masked .ensures, c .is-level .ensures)

@@ -5,11 +5,9 @@ use Rattle.entries.proofs.Low.vector.Tie as tie
 use Rattle.entries.proofs.Low.vector.Reads as reads
 use Rattle.entries.proofs.Low.vector.Lts as lts
 
--- src/word.rt:41:9
 cast-result : tie.Need-cast-result
 cast-result c = omega (arith, and-mask (c .before .args .self .0) 8)
 
--- src/word.rt:38:5
 returns : tie.Need-returns
 returns c = and-mask (c .before .args .self .0) 8
 

@@ -6,7 +6,6 @@ use Rattle.entries.proofs.Low.with_remote.Tie as tie
 use Rattle.entries.proofs.Low.with_remote.Reads as reads
 use Rattle.entries.proofs.Low.with_remote.Lts as lts
 
--- src/word.rt:88:5
 returns : tie.Need-returns
 unfolding withRemote
 returns c = let w = c .before .args .self .0 in omega (arith, or-add-and w 16384, and-high w 1 14)

@@ -10,7 +10,6 @@ use Rattle.entries.proofs.Low.without_remote.Tie as tie
 use Rattle.entries.proofs.Low.without_remote.Reads as reads
 use Rattle.entries.proofs.Low.without_remote.Lts as lts
 
--- src/word.rt:94:5
 returns : tie.Need-returns
 unfolding withoutRemote
 returns c =

@@ -6,11 +6,9 @@ use Rattle.entries.proofs.Low.word_ok.Reads as reads
 use Rattle.entries.proofs.Low.word_ok.Lts as lts
 use Rattle.entries.proofs.Low.bit.Reads as bit-reads
 
--- src/word.rt:120:10
 bit-requires : tie.Need-bit-requires
 bit-requires c κs = search needs
 
--- src/word.rt:117:5
 returns : tie.Need-returns
 unfolding wordOk
 returns c = rw (c .before .bit .ensures)

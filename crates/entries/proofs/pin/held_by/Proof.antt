@@ -1,16 +1,13 @@
-use mathlib.Core.Path.{_≡_}
-use Rattle.entries.specs.Pin.{heldBy}
+use Rattle.entries.specs.Inner.{heldBy}
 use Rattle.entries.proofs.pin.held_by.Statement.{statement}
 use Rattle.entries.proofs.pin.held_by.Tie as tie
 use Rattle.entries.proofs.pin.held_by.Reads as reads
 use Rattle.entries.proofs.pin.held_by.Lts as lts
 
--- src/pin.rt:7:1
 returns : tie.Need-returns
 unfolding heldBy
 returns c = rw (c .if1 .taken)
 
--- src/pin.rt:7:1
 returns-2 : tie.Need-returns-2
 unfolding heldBy
 returns-2 c = rw (c .if1 .left)

@@ -1,6 +1,5 @@
 use mathlib.Core.Path.{refl}
 use Rattle.timer.specs.Tick.{driving}
-use borrow.Author.Needs.{needs}
 use Rattle.timer.proofs.Timer.drives.Statement.{statement}
 use Rattle.timer.proofs.Timer.drives.Tie as tie
 use Rattle.timer.proofs.Timer.drives.Reads as reads

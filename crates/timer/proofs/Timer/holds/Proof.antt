@@ -1,11 +1,10 @@
 use mathlib.Core.Path.{refl}
-use Rattle.timer.specs.Tick.{holding}
+use Rattle.timer.specs.Inner.{holding}
 use Rattle.timer.proofs.Timer.holds.Statement.{statement}
 use Rattle.timer.proofs.Timer.holds.Tie as tie
 use Rattle.timer.proofs.Timer.holds.Reads as reads
 use Rattle.timer.proofs.Timer.holds.Lts as lts
 
--- src/lib.rt:234:5
 returns : tie.Need-returns
 unfolding holding
 returns c = refl

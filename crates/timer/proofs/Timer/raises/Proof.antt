@@ -1,5 +1,5 @@
 use mathlib.Core.Path.{refl}
-use Rattle.timer.specs.Tick.{raising}
+use Rattle.timer.specs.Inner.{raising}
 use Rattle.timer.proofs.Timer.raises.Statement.{statement}
 use Rattle.timer.proofs.Timer.raises.Tie as tie
 use Rattle.timer.proofs.Timer.raises.Reads as reads

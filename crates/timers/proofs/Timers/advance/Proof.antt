@@ -1,6 +1,6 @@
 use mathlib.Core.Path.{sym, _∙_}
 use borrow.Author.Tests.{not-true, not-false}
-use Rattle.timers.proofs.Access.{advance-refused, advance-done, advancing-ran}
+use Rattle.timers.proofs.Advance.{advance-refused, advance-done, advancing-ran}
 use borrow.Author.Needs.{needs}
 use Rattle.timers.proofs.Timers.advance.Statement.{statement}
 use Rattle.timers.proofs.Timers.advance.Tie as tie

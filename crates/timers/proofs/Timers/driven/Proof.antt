@@ -1,9 +1,9 @@
-use mathlib.Core.Path.{_≡_, sym, ap, _∙_}
+use mathlib.Core.Path.{sym, ap, _∙_}
 use mathlib.Core.Bool.{Bool, _&&_}
 use Rattle.timer.specs.declared.Timer.{Timer}
-use Rattle.timer.specs.Tick.{holding}
+use Rattle.timer.specs.Inner.{holding}
 use Rattle.timers.specs.State.{isEnabled}
-use Rattle.timers.specs.Tick.{drivenOf}
+use Rattle.timers.specs.Inner.{drivenOf}
 use borrow.Author.Needs.{needs}
 use Rattle.timers.proofs.Timers.driven.Statement.{statement}
 use Rattle.timers.proofs.Timers.driven.Tie as tie
@@ -12,15 +12,12 @@ use Rattle.timers.proofs.Timers.driven.Lts as lts
 use Rattle.timer.proofs.Timer.holds.Reads as holds-reads
 use Rattle.timers.proofs.Timers.at.Reads as at-reads
 
--- src/lib.rt:158:13
 at-requires : tie.Need-at-requires
 at-requires c κs = search needs
 
--- src/lib.rt:159:34
 holds-requires : tie.Need-holds-requires
 holds-requires c κs = search needs
 
--- src/lib.rt:155:5
 returns : tie.Need-returns
 unfolding drivenOf
 returns c =
@@ -29,7 +26,6 @@ returns c =
     let e = sym (ap (λ (b : Bool). isEnabled s && b) (c .before .holds .ensures ∙ ap holding (a .at .ensures))) ∙ c .if1 .taken in
     rw e (ap (λ (t : Timer). t .route) (a .at .ensures))
 
--- src/lib.rt:155:5
 returns-2 : tie.Need-returns-2
 unfolding drivenOf
 returns-2 c =

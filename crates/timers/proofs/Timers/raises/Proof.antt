@@ -1,6 +1,6 @@
 use mathlib.Core.Path.{ap, _∙_}
-use Rattle.timer.specs.Tick.{raising}
-use Rattle.timers.specs.Tick.{raisesOf}
+use Rattle.timer.specs.Inner.{raising}
+use Rattle.timers.specs.Inner.{raisesOf}
 use borrow.Author.Needs.{needs}
 use Rattle.timers.proofs.Timers.raises.Statement.{statement}
 use Rattle.timers.proofs.Timers.raises.Tie as tie

@@ -8,35 +8,27 @@ use Rattle.timers.proofs.Timers.timer_written.Reads as reads
 use Rattle.timers.proofs.Timers.timer_written.Lts as lts
 use Rattle.timers.proofs.put.Reads as put-reads
 
--- src/lib.rt:287:18
 sub-m : tie.Need-sub-m
 sub-m c = search needs
 
--- src/lib.rt:290:18
 array-copy-out-t0 : tie.Need-array-copy-out-t0
 array-copy-out-t0 c = search needs
 
--- src/lib.rt:291:18
 array-copy-out-t1 : tie.Need-array-copy-out-t1
 array-copy-out-t1 c = search needs
 
--- src/lib.rt:292:18
 array-copy-out-t2 : tie.Need-array-copy-out-t2
 array-copy-out-t2 c = search needs
 
--- src/lib.rt:293:13
 put-requires : tie.Need-put-requires
 put-requires c κs = search needs
 
--- src/lib.rt:294:13
 put-requires-2 : tie.Need-put-requires-2
 put-requires-2 c κs = search needs
 
--- src/lib.rt:295:13
 put-requires-3 : tie.Need-put-requires-3
 put-requires-3 c κs = search needs
 
--- src/lib.rt:283:5
 returns : tie.Need-returns
 returns c =
     let c1 = c .before in

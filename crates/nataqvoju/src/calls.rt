@@ -1,0 +1,84 @@
+// The board's calls by value, with the answer as numbers, of a board that the entry has tested already. A wire change and an
+// advance are made at the pins concerned, which is the call on a well-formed board only.
+ghost use mathlib.Core.Path.{_≡_};
+ghost use mathlib.Core.Bool.{true};
+ghost use Rattle.answers.specs.declared.Answer.the-variants as answer;
+ghost use Rattle.answers.specs.declared.Refusal.the-variants as refusal;
+ghost use Rattle.answers.specs.Numbers.{numbersOf};
+ghost use Rattle.board.specs.declared.Call.the-variants as call;
+ghost use Rattle.board.specs.Formed.{wellFormed};
+ghost use Rattle.board.specs.Step.{readingOf, writingOf, wiringOf, endingOf, advancingOf, deliveringOnBoard, turnOf};
+ghost use Rattle.nataqvoju.specs.Lent.{outOf};
+use crate::Out;
+use answers::Answer;
+use answers::Numbers;
+use answers::Refusal;
+use board::Board;
+use board::Turn;
+
+fn out(turn: Turn) -> Out
+    ensures { λ r. ⌜ r ≡ outOf turn ⌝ }
+{
+    let board = turn.board;
+    let answer = turn.answer;
+    Out {
+        board,
+        numbers: answer.numbers(),
+    }
+}
+
+// Whatever the board was.
+pub fn reset(b: Board) -> Out
+    ensures { λ r. ⌜ r ≡ outOf (turnOf b call.Reset) ⌝ }
+{
+    Out {
+        board: Board::reset(),
+        numbers: Answer::Done.numbers(),
+    }
+}
+
+// A read leaves the board, so only the numbers come back.
+pub fn read(b: Board, window: u64, width: u64, offset: u64) -> Numbers
+    ensures { λ r. ⌜ r ≡ numbersOf (readingOf b window width offset .answer) ⌝ }
+{
+    let turn = b.reading(window, width, offset);
+    let answer = turn.answer;
+    answer.numbers()
+}
+
+pub fn write(b: Board, window: u64, width: u64, offset: u64, value: u64) -> Out
+    ensures { λ r. ⌜ r ≡ outOf (writingOf b window width offset value) ⌝ }
+{
+    out(b.writing(window, width, offset, value))
+}
+
+pub fn wire(b: Board, pin: u64, level: u64) -> Out
+    ensures { λ r. ⌜ (wellFormed b ≡ true → r ≡ outOf (wiringOf b pin level)) ⌝ }
+{
+    out(b.wiring(pin, level))
+}
+
+pub fn end(b: Board, vector: u8) -> Out
+    ensures { λ r. ⌜ r ≡ outOf (endingOf b vector) ⌝ }
+{
+    out(b.ending(vector))
+}
+
+pub fn advance(b: Board, ticks: u32) -> Out
+    ensures { λ r. ⌜ (wellFormed b ≡ true → r ≡ outOf (advancingOf b ticks)) ⌝ }
+{
+    out(b.advancing(ticks))
+}
+
+pub fn deliver(b: Board) -> Out
+    ensures { λ r. ⌜ r ≡ outOf (deliveringOnBoard b) ⌝ }
+{
+    out(b.delivering())
+}
+
+// The numbers of refusal 5.
+pub fn refused() -> Numbers
+    ensures { λ r. ⌜ r ≡ numbersOf (answer.Refused refusal.State) ⌝ }
+{
+    Answer::Refused(Refusal::State).numbers()
+}

@@ -1,0 +1,118 @@
+// The monitor's entry: the board lent by the monitor and changed where it lies. The answers are those of the board's own calls,
+// as numbers. Every byte pattern of the lent memory is a board: one that is not well formed gets 5 and stays as it is.
+mod calls;
+
+ghost use mathlib.Core.Path.{_≡_};
+ghost use Rattle.board.specs.declared.Call.the-variants as call;
+ghost use Rattle.board.specs.Formed.{wellFormed};
+ghost use Rattle.board.specs.Step.{turnOf};
+ghost use Rattle.nataqvoju.specs.Lent.{Gives};
+use answers::Numbers;
+use board::Board;
+
+pub struct Out {
+    pub board: Board,
+    pub numbers: Numbers,
+}
+
+// Whether the lent board is well formed, tested where it lies: by value it would be copied first.
+fn formed(b: &Board) -> bool
+    ensures { λ r. ⌜ r ≡ wellFormed (now (b .entry)) ⌝ }
+{
+    let s = *b;
+    s.well_formed()
+}
+
+// Whatever was there.
+#[no_mangle]
+pub extern "C" fn nataqvoju_reset(b: &mut Board) -> Numbers
+    ensures { λ r. ⌜ Gives (turnOf (now (b .entry)) call.Reset) (now (b .exit)) r ⌝ }
+{
+    let s = *b;
+    let o = calls::reset(s);
+    *b = o.board;
+    o.numbers
+}
+
+// A read leaves the board, so it is lent to be looked at only.
+#[no_mangle]
+pub extern "C" fn nataqvoju_read(b: &Board, window: u64, width: u64, offset: u64) -> Numbers
+    ensures { λ r. ⌜ Gives (turnOf (now (b .entry)) (call.Read window width offset)) (now (b .entry)) r ⌝ }
+{
+    if formed(b) {
+        let s = *b;
+        return calls::read(s, window, width, offset);
+    }
+    calls::refused()
+}
+
+#[no_mangle]
+pub extern "C" fn nataqvoju_write(
+    b: &mut Board,
+    window: u64,
+    width: u64,
+    offset: u64,
+    value: u64,
+) -> Numbers
+    ensures { λ r. ⌜ Gives (turnOf (now (b .entry)) (call.Write window width offset value)) (now (b .exit)) r ⌝ }
+{
+    if formed(b) {
+        let s = *b;
+        let o = calls::write(s, window, width, offset, value);
+        *b = o.board;
+        return o.numbers;
+    }
+    calls::refused()
+}
+
+#[no_mangle]
+pub extern "C" fn nataqvoju_wire(b: &mut Board, pin: u64, level: u64) -> Numbers
+    ensures { λ r. ⌜ Gives (turnOf (now (b .entry)) (call.Wire pin level)) (now (b .exit)) r ⌝ }
+{
+    if formed(b) {
+        let s = *b;
+        let o = calls::wire(s, pin, level);
+        *b = o.board;
+        return o.numbers;
+    }
+    calls::refused()
+}
+
+#[no_mangle]
+pub extern "C" fn nataqvoju_end(b: &mut Board, vector: u8) -> Numbers
+    ensures { λ r. ⌜ Gives (turnOf (now (b .entry)) (call.End vector)) (now (b .exit)) r ⌝ }
+{
+    if formed(b) {
+        let s = *b;
+        let o = calls::end(s, vector);
+        *b = o.board;
+        return o.numbers;
+    }
+    calls::refused()
+}
+
+#[no_mangle]
+pub extern "C" fn nataqvoju_advance(b: &mut Board, ticks: u32) -> Numbers
+    ensures { λ r. ⌜ Gives (turnOf (now (b .entry)) (call.Advance ticks)) (now (b .exit)) r ⌝ }
+{
+    if formed(b) {
+        let s = *b;
+        let o = calls::advance(s, ticks);
+        *b = o.board;
+        return o.numbers;
+    }
+    calls::refused()
+}
+
+#[no_mangle]
+pub extern "C" fn nataqvoju_deliver(b: &mut Board) -> Numbers
+    ensures { λ r. ⌜ Gives (turnOf (now (b .entry)) call.Deliver) (now (b .exit)) r ⌝ }
+{
+    if formed(b) {
+        let s = *b;
+        let o = calls::deliver(s);
+        *b = o.board;
+        return o.numbers;
+    }
+    calls::refused()
+}

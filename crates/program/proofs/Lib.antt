@@ -1,0 +1,3 @@
+mod Text
+mod Order
+mod Loop

@@ -1,0 +1,103 @@
+// What an argument is.
+ghost use mathlib.Core.Path.{_≡_};
+ghost use Rattle.program.specs.Argument.{sameText, begunOf, kindOf};
+
+pub enum Argument {
+    Help,
+    Standard,
+    Empty,
+    Dashed,
+    Named,
+}
+
+// Whether two texts are the same.
+pub fn same(a: &[u8], b: &[u8]) -> bool
+    ensures { λ r. ⌜ r ≡ sameText (now (a .entry)) (now (b .entry)) ⌝ }
+{
+    if a.len() != b.len() {
+        return false;
+    }
+    let mut i = 0;
+    while i < a.len() {
+        if a[i] != b[i] {
+            return false;
+        }
+        i += 1;
+    }
+    true
+}
+
+fn begins(argument: &[u8]) -> Argument
+    ensures { λ r. ⌜ r ≡ begunOf (now (argument .entry)) ⌝ }
+{
+    if argument.len() == 0 {
+        return Argument::Empty;
+    }
+    if argument[0] == b'-' {
+        return Argument::Dashed;
+    }
+    Argument::Named
+}
+
+pub fn kind(argument: &[u8]) -> Argument
+    ensures { λ r. ⌜ r ≡ kindOf (now (argument .entry)) ⌝ }
+{
+    if same(argument, b"-h") {
+        return Argument::Help;
+    }
+    if same(argument, b"--help") {
+        return Argument::Help;
+    }
+    if same(argument, b"-") {
+        return Argument::Standard;
+    }
+    begins(argument)
+}
+
+// An argument that is missing, or longer than a file's name can be, is taken for an empty one.
+fn kind_at(i: usize) -> Argument {
+    let mut text = io::buffer();
+    let n = os::arg(i, &mut text);
+    kind(&text[..n])
+}
+
+fn is_help(i: usize) -> bool {
+    let kind = kind_at(i);
+    match kind {
+        Argument::Help => true,
+        _ => false,
+    }
+}
+
+fn is_dashed(i: usize) -> bool {
+    let kind = kind_at(i);
+    match kind {
+        Argument::Dashed => true,
+        _ => false,
+    }
+}
+
+// Whether `-h` or `--help` is among the arguments.
+pub fn asks_help() -> bool {
+    let count = os::arg_count();
+    let mut i = 1;
+    while i < count {
+        if is_help(i) {
+            return true;
+        }
+        i += 1;
+    }
+    false
+}
+
+// Whether argument i is the last one and no option, or there is none.
+pub fn one_input(i: usize) -> bool {
+    let count = os::arg_count();
+    if count <= i {
+        return true;
+    }
+    if 1 < count - i {
+        return false;
+    }
+    !is_dashed(i)
+}

@@ -1,0 +1,14 @@
+// What every program does alike: its arguments, its input, its output and its messages.
+//
+// `name` is the program's own name, which begins each message: `NAME: the file: the reason`.
+mod arguments;
+mod input;
+mod output;
+mod transfer;
+
+pub use arguments::asks_help;
+pub use arguments::one_input;
+pub use input::read_input;
+pub use output::print;
+pub use output::usage;
+pub use transfer::Transfer;

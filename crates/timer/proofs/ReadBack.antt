@@ -1,0 +1,199 @@
+-- One timer's two registers: what a read gives after a write of either, over the bits written and read.
+use Prim.Native.Nat.{ℕ, zero, suc, _+_, _*_, _/_, _%_, _^_, _<_}
+use mathlib.Core.Path.{_≡_, refl, sym, ap, ap₂, _∙_}
+use mathlib.Core.Bool.{Bool, true, false, cond}
+use native.Mathlib.Omega.{arith}
+use native.Mathlib.Nat.{mod-lt, zero-mul, one-mul}
+use native.Mathlib.Decide.{ℕ-discrete}
+use lib.Dec.{eqb, ltb, lit<}
+use mir.Val.{boolByte}
+use borrow.Author.Tests.{eqb-false}
+use Rattle.timer.specs.declared.Timer.{Timer}
+use Rattle.timer.specs.State.{flag, reduced, narrowed, withComparator, withPeriod, withSet}
+use Rattle.timer.specs.Formed.{Formed}
+use Rattle.timer.specs.Registers.{bit, configurationOf, configuredOf, comparedOf, clearedOf}
+
+-- a configuration of its fields: 13:9 route, 8 32-bit mode, 6 set-comparator, 5 and 4, 3 periodic, 2 interrupt enable, 1 level type, and 0x00FFFFFF above
+abbrev pub fields : ℕ → ℕ → ℕ → ℕ → ℕ → ℕ → ℕ
+fields route narrow set periodic interrupt level =
+    0x00FFFFFF * 2 ^ 32 + (route * 2 ^ 9 + (narrow * 2 ^ 8 + (set * 2 ^ 6 + (3 * 2 ^ 4 + (periodic * 2 ^ 3 + (interrupt * 2 ^ 2 + level * 2 ^ 1))))))
+
+-- ---- flags are bits
+
+pub flag-is : (f : ℕ) → f < 2 → boolByte (flag f) ≡ f
+flag-is zero h = refl
+flag-is (suc zero) h = refl
+flag-is (suc (suc f)) h = absurd (omega arith)
+
+bit-is : (k v : ℕ) → boolByte (flag (bit k v)) ≡ bit k v
+bit-is k v = flag-is (bit k v) (mod-lt (v / 2 ^ k) (lit< tt))
+
+-- kept only where the other is 1
+both : (a b : ℕ) → a < 2 → b < 2 → boolByte (flag (cond (flag a) b 0)) ≡ a * b
+both zero b h l = sym (zero-mul b)
+both (suc zero) b h l = flag-is b l ∙ sym (one-mul b)
+both (suc (suc a)) b h l = absurd (omega arith)
+
+reduced-is : (b : Bool) (x : ℕ) → reduced b x ≡ cond b (x % 2 ^ 32) x
+reduced-is true x = refl
+reduced-is false x = refl
+
+pub record Reads (x : ℕ) (t : Timer) : Type 0 where
+  pub periodic : x / 2 ^ 3 % 2 ≡ t .periodic
+  pub set : x / 2 ^ 6 % 2 ≡ t .«set_comparator»
+  pub narrow : x / 2 ^ 8 % 2 ≡ t .narrow
+  pub route : x / 2 ^ 9 % 2 ^ 5 ≡ t .route
+
+read-fields :
+    (t : Timer) → t .route < 24 → t .narrow < 2 → t .«set_comparator» < 2 → t .periodic < 2 → t .interrupt < 2 → t .«level_type» < 2 →
+    Reads (fields (t .route) (t .narrow) (t .«set_comparator») (t .periodic) (t .interrupt) (t .«level_type»)) t
+read-fields t hr hn hs hp hi hl = record { periodic = omega arith; set = omega arith; narrow = omega arith; route = omega arith }
+
+module _ (t : Timer) (z : Formed t) where
+  -- a well-formed timer's configuration, by its own numbers
+  pub configuration-is : configurationOf t ≡ fields (t .route) (t .narrow) (t .«set_comparator») (t .periodic) (t .interrupt) (t .«level_type»)
+  unfolding configurationOf
+  configuration-is =
+      λ k.
+      fields (t .route) (flag-is (t .narrow) (omega (arith, z .narrow-bit)) k) (flag-is (t .«set_comparator») (omega (arith, z .set-bit)) k)
+      (flag-is (t .periodic) (omega (arith, z .periodic-bit)) k) (flag-is (t .interrupt) (omega (arith, z .interrupt-bit)) k)
+      (flag-is (t .«level_type») (omega (arith, z .level-bit)) k)
+
+  -- the fields of what the register reads are the timer's
+  pub configuration-reads : Reads (configurationOf t) t
+  configuration-reads =
+      rw configuration-is
+      (read-fields t (z .route-pin) (omega (arith, z .narrow-bit)) (omega (arith, z .set-bit)) (omega (arith, z .periodic-bit)) (omega (arith, z .interrupt-bit)) (omega (arith, z .level-bit)))
+
+  module _ (v : ℕ) where
+    -- "Writable: 1 level type, 2 interrupt enable, 3 periodic, 6 set-comparator (kept only if bit 3 is written 1), 8 32-bit mode, 13:9 route.
+    -- … A route above 23 keeps the old route"
+    pub configuration-back :
+        configurationOf (configuredOf t v)
+        ≡ fields (cond (ltb (v / 2 ^ 9 % 2 ^ 5) 24) (v / 2 ^ 9 % 2 ^ 5) (configurationOf t / 2 ^ 9 % 2 ^ 5)) (bit 8 v) (bit 3 v * bit 6 v) (bit 3 v) (bit 2 v) (bit 1 v)
+    unfolding configuredOf configurationOf
+    configuration-back =
+        λ k.
+        fields (cond (ltb (v / 2 ^ 9 % 2 ^ 5) 24) (v / 2 ^ 9 % 2 ^ 5) (sym (configuration-reads .route) k)) (bit-is 8 v k)
+        (both (bit 3 v) (bit 6 v) (mod-lt (v / 2 ^ 3) (lit< tt)) (mod-lt (v / 2 ^ 6) (lit< tt)) k) (bit-is 3 v k) (bit-is 2 v k) (bit-is 1 v k)
+
+    -- "Writing 32-bit mode reduces comparator and period modulo 2^32."
+    pub configured-comparator : configuredOf t v .comparator ≡ cond (eqb (bit 8 v) 1) (t .comparator % 2 ^ 32) (t .comparator)
+    unfolding configuredOf
+    configured-comparator = reduced-is (flag (bit 8 v)) (t .comparator)
+
+    -- "Writing edge type clears the status."
+    pub configured-status : configuredOf t v .status ≡ cond (eqb (bit 1 v) 1) (t .status) 0
+    unfolding configuredOf
+    configured-status = refl
+
+    -- what is written as a comparator: "In 32-bit mode the written number is first reduced modulo 2^32"
+    taken : reduced (narrowed t) v ≡ cond (eqb (configurationOf t / 2 ^ 8 % 2) 1) (v % 2 ^ 32) v
+    taken = reduced-is (narrowed t) v ∙ ap (λ (x : ℕ). cond (eqb x 1) (v % 2 ^ 32) v) (sym (configuration-reads .narrow))
+
+    comparator-is : comparedOf t v .comparator ≡ cond (flag (t .periodic)) (cond (flag (t .«set_comparator»)) (reduced (narrowed t) v) (t .comparator)) (reduced (narrowed t) v)
+    unfolding comparedOf
+    comparator-is = go (flag (t .periodic))
+      where
+        x : ℕ
+        x = reduced (narrowed t) v
+
+        y : ℕ
+        y = cond (flag (t .«set_comparator»)) x (t .comparator)
+
+        go : (b : Bool) → cond b (withSet (withPeriod (withComparator t y) x) 0) (withComparator t x) .comparator ≡ cond b y x
+        go true = refl
+        go false = refl
+
+    -- by the two bits of the configuration
+    compared-by :
+        (p q : ℕ) → configurationOf t / 2 ^ 3 % 2 ≡ p → configurationOf t / 2 ^ 6 % 2 ≡ q →
+        comparedOf t v .comparator ≡ cond (flag p) (cond (flag q) (reduced (narrowed t) v) (t .comparator)) (reduced (narrowed t) v)
+    compared-by p q e f =
+        comparator-is
+        ∙ ap (λ (n : ℕ). cond (flag n) (cond (flag (t .«set_comparator»)) (reduced (narrowed t) v) (t .comparator)) (reduced (narrowed t) v)) (sym (configuration-reads .periodic) ∙ e)
+        ∙ ap (λ (n : ℕ). cond (flag p) (cond (flag n) (reduced (narrowed t) v) (t .comparator)) (reduced (narrowed t) v)) (sym (configuration-reads .set) ∙ f)
+
+    -- "One-shot: the write sets it."
+    pub one-shot-back : configurationOf t / 2 ^ 3 % 2 ≡ 0 → comparedOf t v .comparator ≡ cond (eqb (configurationOf t / 2 ^ 8 % 2) 1) (v % 2 ^ 32) v
+    one-shot-back e = compared-by 0 (configurationOf t / 2 ^ 6 % 2) e refl ∙ taken
+
+    -- "Periodic: the write sets the period, and also the comparator if bit 6 is 1"
+    pub set-back : configurationOf t / 2 ^ 6 % 2 ≡ 1 → comparedOf t v .comparator ≡ cond (eqb (configurationOf t / 2 ^ 8 % 2) 1) (v % 2 ^ 32) v
+    set-back f = compared-by 1 1 (configuration-reads .periodic ∙ z .set-periodic (λ q. omega (arith, sym (configuration-reads .set) ∙ f))) f ∙ taken
+
+    pub period-back : configurationOf t / 2 ^ 3 % 2 ≡ 1 → configurationOf t / 2 ^ 6 % 2 ≡ 0 → comparedOf t v .comparator ≡ t .comparator
+    period-back = compared-by 1 0
+
+    -- a set-comparator bit stands on a periodic timer only
+    unset : (b : Bool) → flag (t .periodic) ≡ b → boolByte (flag (cond b 0 (t .«set_comparator»))) ≡ 0
+    unset true e = refl
+    unset false e = go (ℕ-discrete (t .«set_comparator») 0)
+      where
+        go : Dec (t .«set_comparator» ≡ 0) → boolByte (flag (t .«set_comparator»)) ≡ 0
+        go (yes q) = ap (λ (n : ℕ). boolByte (flag n)) q
+        go (no n) = absurd (omega (arith, eqb-false (t .periodic) 1 e, z .set-periodic n))
+
+    without-set : configurationOf (comparedOf t v) ≡ fields (t .route) (t .narrow) 0 (t .periodic) (t .interrupt) (t .«level_type»)
+    unfolding comparedOf configurationOf
+    without-set = go (flag (t .periodic)) refl
+      where
+        x : ℕ
+        x = reduced (narrowed t) v
+
+        y : ℕ
+        y = cond (flag (t .«set_comparator»)) x (t .comparator)
+
+        placed : ℕ → ℕ
+        placed s =
+            fields (t .route) (boolByte (flag (t .narrow))) s (boolByte (flag (t .periodic))) (boolByte (flag (t .interrupt))) (boolByte (flag (t .«level_type»)))
+
+        bits : placed 0 ≡ fields (t .route) (t .narrow) 0 (t .periodic) (t .interrupt) (t .«level_type»)
+        bits =
+            λ k.
+            fields (t .route) (flag-is (t .narrow) (omega (arith, z .narrow-bit)) k) 0 (flag-is (t .periodic) (omega (arith, z .periodic-bit)) k)
+            (flag-is (t .interrupt) (omega (arith, z .interrupt-bit)) k) (flag-is (t .«level_type») (omega (arith, z .level-bit)) k)
+
+        go :
+            (b : Bool) → flag (t .periodic) ≡ b →
+            configurationOf (cond b (withSet (withPeriod (withComparator t y) x) 0) (withComparator t x)) ≡ fields (t .route) (t .narrow) 0 (t .periodic) (t .interrupt) (t .«level_type»)
+        go true e = bits
+        go false e = ap placed (unset false e) ∙ bits
+
+    -- "bit 6 then becomes 0"; the other bits stay
+    pub compared-configuration : configurationOf (comparedOf t v) + configurationOf t / 2 ^ 6 % 2 * 2 ^ 6 ≡ configurationOf t
+    compared-configuration =
+        ap₂ (λ (a b : ℕ). a + b * 2 ^ 6) without-set (configuration-reads .set)
+        ∙ put (t .route) (t .narrow) (t .«set_comparator») (t .periodic) (t .interrupt) (t .«level_type»)
+        ∙ sym configuration-is
+      where
+        put : (r n s p i l : ℕ) → fields r n 0 p i l + s * 2 ^ 6 ≡ fields r n s p i l
+        put r n s p i l = omega arith
+
+-- ---- what a write leaves of the rest
+
+module _ (t : Timer) where
+  -- a status written 1 is cleared, and nothing else
+  pub cleared-status : clearedOf t .status ≡ 0
+  unfolding clearedOf
+  cleared-status = refl
+
+  pub cleared-configuration : configurationOf (clearedOf t) ≡ configurationOf t
+  unfolding clearedOf configurationOf
+  cleared-configuration = refl
+
+  pub cleared-comparator : clearedOf t .comparator ≡ t .comparator
+  unfolding clearedOf
+  cleared-comparator = refl
+
+  -- a comparator write leaves the status
+  pub compared-status : (v : ℕ) → comparedOf t v .status ≡ t .status
+  unfolding comparedOf
+  compared-status v = go (flag (t .periodic))
+    where
+      x : ℕ
+      x = reduced (narrowed t) v
+
+      go : (b : Bool) → cond b (withSet (withPeriod (withComparator t (cond (flag (t .«set_comparator»)) x (t .comparator))) x) 0) (withComparator t x) .status ≡ t .status
+      go true = refl
+      go false = refl

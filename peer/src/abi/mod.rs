@@ -1,0 +1,90 @@
+//! The lent entry's memory layout, and what each of its calls has to answer.
+//!
+//! No struct has padding, so equal fields are equal bytes. Fields are as wide as the C interface
+//! has them; what doesn't fit the model's types isn't well formed.
+
+mod call;
+mod model;
+
+use crate::pin::PINS;
+use crate::timers::TIMERS;
+
+pub use call::{Call, Reply};
+
+/// The redirection entries by columns, with pin levels and held edges.
+#[repr(C)]
+#[derive(Clone, Copy, PartialEq, Eq, Debug)]
+pub struct Entries {
+    /// Stored low words.
+    pub low: [u32; PINS],
+    /// Bits 31:24 of the high words.
+    pub destination: [u8; PINS],
+    /// Levels of the pins' wires.
+    pub level: [u8; PINS],
+    /// Held edges.
+    pub held: [u8; PINS],
+}
+
+/// The controller.
+#[repr(C)]
+#[derive(Clone, Copy, PartialEq, Eq, Debug)]
+pub struct Controller {
+    /// At most 15.
+    pub id: u32,
+    /// At most 255.
+    pub index: u32,
+    /// The entries.
+    pub entries: Entries,
+}
+
+/// One timer; the flags are 0 or 1.
+#[repr(C)]
+#[derive(Clone, Copy, PartialEq, Eq, Debug)]
+pub struct Timer {
+    /// The comparator.
+    pub comparator: u64,
+    /// The period.
+    pub period: u64,
+    /// At most 23.
+    pub route: u16,
+    /// Level type.
+    pub level_type: u8,
+    /// Interrupt enable.
+    pub interrupt: u8,
+    /// Periodic.
+    pub periodic: u8,
+    /// Set-comparator.
+    pub set_comparator: u8,
+    /// 32-bit mode.
+    pub narrow: u8,
+    /// Status.
+    pub status: u8,
+}
+
+/// The timer block.
+#[repr(C)]
+#[derive(Clone, Copy, PartialEq, Eq, Debug)]
+pub struct Timers {
+    /// The main counter.
+    pub counter: u64,
+    /// 0 or 1.
+    pub enabled: u64,
+    /// The timers.
+    pub timer: [Timer; TIMERS],
+}
+
+/// The board.
+#[repr(C)]
+#[derive(Clone, Copy, PartialEq, Eq, Debug)]
+pub struct Board {
+    /// The timer block.
+    pub timers: Timers,
+    /// The controller.
+    pub controller: Controller,
+    /// The outside wires.
+    pub outside: [u8; PINS],
+}
+
+const _: () = assert!(size_of::<Entries>() == 168 && size_of::<Controller>() == 176);
+const _: () = assert!(size_of::<Timer>() == 24 && size_of::<Timers>() == 88);
+const _: () = assert!(size_of::<Board>() == 288 && size_of::<Reply>() == 32);

@@ -1,0 +1,241 @@
+//! The clauses of "well formed", and how to break each alone.
+
+use crate::abi::{Board, Timer};
+use crate::random::Random;
+
+/// A clause.
+pub struct Clause {
+    /// What it says.
+    pub name: &'static str,
+    holds: fn(&Board) -> bool,
+    break_it: fn(&mut Board, &mut Random),
+}
+
+impl Clause {
+    /// Breaks this clause in a well-formed board and leaves every other one whole.
+    pub fn break_alone(&self, board: &mut Board, random: &mut Random) {
+        (self.break_it)(board, random);
+        let broken = CLAUSES.iter().filter(|clause| !(clause.holds)(board));
+        let names: Vec<&str> = broken.map(|clause| clause.name).collect();
+        assert_eq!(names, [self.name], "one clause is broken alone");
+    }
+}
+
+/// All clauses.
+pub const CLAUSES: &[Clause] = &[
+    Clause {
+        name: "the id is at most 15",
+        holds: |board| board.controller.id <= 15,
+        break_it: |board, random| board.controller.id = 16 + above(random),
+    },
+    Clause {
+        name: "the index is at most 255",
+        holds: |board| board.controller.index <= 255,
+        break_it: |board, random| board.controller.index = 256 + above(random),
+    },
+    Clause {
+        name: "the enable bit is 0 or 1",
+        holds: |board| board.timers.enabled <= 1,
+        break_it: |board, random| {
+            board.timers.enabled = random.choose(&[2, 3, 1 << 8, 1 << 32 | 1, 1 << 63]);
+            settle(board);
+        },
+    },
+    Clause {
+        name: "low words have writable bits only, beside remote IRR",
+        holds: |board| board.controller.entries.low.iter().all(|low| low & 0xFFFE_1000 == 0),
+        break_it: |board, random| {
+            let bit = random.choose(&[12, 17, 18, 24, 31]);
+            board.controller.entries.low[pin(random)] |= 1 << bit;
+        },
+    },
+    Clause {
+        name: "no edge is held on a level pin",
+        holds: |board| {
+            (0..24).all(|pin| is_edge(board, pin) || board.controller.entries.held[pin] == 0)
+        },
+        break_it: |board, random| {
+            let pin = pin(random);
+            board.controller.entries.low[pin] |= LEVEL;
+            board.controller.entries.held[pin] = 1;
+        },
+    },
+    Clause {
+        name: "held edges are 0 or 1",
+        holds: |board| are_flags(&board.controller.entries.held),
+        break_it: |board, random| {
+            let pin = pin(random);
+            board.controller.entries.low[pin] &= !LEVEL;
+            board.controller.entries.held[pin] = no_flag(random);
+        },
+    },
+    Clause {
+        name: "outside wires are 0 or 1",
+        holds: |board| are_flags(&board.outside),
+        break_it: |board, random| {
+            board.outside[pin(random)] = no_flag(random);
+            settle(board);
+        },
+    },
+    Clause {
+        name: "pin levels are those of the wire rule",
+        holds: |board| board.controller.entries.level == wires(board),
+        break_it: |board, random| {
+            let level = &mut board.controller.entries.level[pin(random)];
+            *level = if random.percent(50) { no_flag(random) } else { 1 - *level };
+        },
+    },
+    Clause {
+        name: "routes are at most 23",
+        holds: |board| all_timers(board, |timer| timer.route <= 23),
+        break_it: |board, random| {
+            timer(board, random).route = 24 + random.choose(&[0, 1, 7, 8, 232, 0xFFE7]);
+            settle(board);
+        },
+    },
+    Clause {
+        name: "set-comparator is 0 unless periodic",
+        holds: |board| all_timers(board, |timer| timer.set_comparator == 0 || timer.periodic != 0),
+        break_it: |board, random| {
+            let timer = timer(board, random);
+            (timer.periodic, timer.set_comparator) = (0, 1);
+        },
+    },
+    Clause {
+        name: "32-bit comparators are below 2^32",
+        holds: |board| all_timers(board, |timer| timer.narrow == 0 || timer.comparator >> 32 == 0),
+        break_it: |board, random| {
+            let timer = timer(board, random);
+            timer.narrow = 1;
+            timer.period &= 0xFFFF_FFFF;
+            timer.comparator = wide(random);
+        },
+    },
+    Clause {
+        name: "32-bit periods are below 2^32",
+        holds: |board| all_timers(board, |timer| timer.narrow == 0 || timer.period >> 32 == 0),
+        break_it: |board, random| {
+            let timer = timer(board, random);
+            timer.narrow = 1;
+            timer.comparator &= 0xFFFF_FFFF;
+            timer.period = wide(random);
+        },
+    },
+    Clause {
+        name: "an edge timer's status is 0",
+        holds: |board| all_timers(board, |timer| timer.status == 0 || timer.level_type != 0),
+        break_it: |board, random| {
+            let timer = timer(board, random);
+            (timer.level_type, timer.status) = (0, 1);
+            settle(board);
+        },
+    },
+    Clause {
+        name: "level type is 0 or 1",
+        holds: |board| all_timers(board, |timer| timer.level_type <= 1),
+        break_it: |board, random| {
+            timer(board, random).level_type = no_flag(random);
+            settle(board);
+        },
+    },
+    Clause {
+        name: "interrupt enable is 0 or 1",
+        holds: |board| all_timers(board, |timer| timer.interrupt <= 1),
+        break_it: |board, random| {
+            timer(board, random).interrupt = no_flag(random);
+            settle(board);
+        },
+    },
+    Clause {
+        name: "periodic is 0 or 1",
+        holds: |board| all_timers(board, |timer| timer.periodic <= 1),
+        break_it: |board, random| timer(board, random).periodic = no_flag(random),
+    },
+    Clause {
+        name: "set-comparator is 0 or 1",
+        holds: |board| all_timers(board, |timer| timer.set_comparator <= 1),
+        break_it: |board, random| {
+            let set = no_flag(random);
+            let timer = timer(board, random);
+            (timer.periodic, timer.set_comparator) = (1, set);
+        },
+    },
+    Clause {
+        name: "32-bit mode is 0 or 1",
+        holds: |board| all_timers(board, |timer| timer.narrow <= 1),
+        break_it: |board, random| {
+            let narrow = no_flag(random);
+            let timer = timer(board, random);
+            timer.narrow = narrow;
+            timer.comparator &= 0xFFFF_FFFF;
+            timer.period &= 0xFFFF_FFFF;
+        },
+    },
+    Clause {
+        name: "status is 0 or 1",
+        holds: |board| all_timers(board, |timer| timer.status <= 1),
+        break_it: |board, random| {
+            let status = no_flag(random);
+            let timer = timer(board, random);
+            (timer.level_type, timer.status) = (1, status);
+            settle(board);
+        },
+    },
+];
+
+/// Bit 15 of a low word.
+const LEVEL: u32 = 1 << 15;
+
+fn is_edge(board: &Board, pin: usize) -> bool {
+    board.controller.entries.low[pin] & LEVEL == 0
+}
+
+fn all_timers(board: &Board, holds: fn(&Timer) -> bool) -> bool {
+    board.timers.timer.iter().all(holds)
+}
+
+fn are_flags(bytes: &[u8]) -> bool {
+    bytes.iter().all(|&byte| byte <= 1)
+}
+
+/// The wire rule, also for boards that are not well formed: what isn't 0 is on.
+fn wires(board: &Board) -> [u8; 24] {
+    let mut wires = board.outside.map(|level| u8::from(level != 0));
+    let drives = |timer: &&Timer| {
+        board.timers.enabled != 0
+            && [timer.level_type, timer.interrupt, timer.status].iter().all(|&flag| flag != 0)
+    };
+    for timer in board.timers.timer.iter().filter(drives) {
+        if let Some(wire) = wires.get_mut(usize::from(timer.route)) {
+            *wire = 1;
+        }
+    }
+    wires
+}
+
+fn settle(board: &mut Board) {
+    board.controller.entries.level = wires(board);
+}
+
+fn pin(random: &mut Random) -> usize {
+    random.below(24) as usize
+}
+
+fn timer<'board>(board: &'board mut Board, random: &mut Random) -> &'board mut Timer {
+    &mut board.timers.timer[random.below(3) as usize]
+}
+
+/// A flag that is neither 0 nor 1.
+fn no_flag(random: &mut Random) -> u8 {
+    random.choose(&[2, 3, 0x80, 0xFE, 0xFF])
+}
+
+/// How far above the greatest number.
+fn above(random: &mut Random) -> u32 {
+    random.choose(&[0, 0, 1, 1 << 8, 1 << 16, 1 << 31])
+}
+
+/// A number of more than 32 bits.
+fn wide(random: &mut Random) -> u64 {
+    1 << (32 + random.below(32)) | random.below(1 << 32)
+}
