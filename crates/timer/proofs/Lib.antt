@@ -14,6 +14,7 @@ pub mod Ran
 pub mod Alone
 pub mod Wire
 pub mod Formed
+pub mod Halves
 pub mod Kept
 pub mod Bits
 pub mod Written
