@@ -29,7 +29,7 @@ impl Timers {
     }
 
     // What an offset in the window reads.
-    fn register(self, offset: u64) -> u64
+    pub(crate) fn register(self, offset: u64) -> u64
         ensures { λ r. ⌜ r ≡ registerOf self offset ⌝ }
     {
         if offset == Timers::CAPABILITIES {
@@ -116,7 +116,7 @@ impl Timers {
     }
 
     // A write to an offset in the window.
-    fn written(self, offset: u64, value: u64) -> Timers
+    pub(crate) fn written(self, offset: u64, value: u64) -> Timers
         ensures { λ r. ⌜ r ≡ writtenOf self offset value ⌝ }
     {
         if offset == Timers::CONFIGURATION {
@@ -148,11 +148,14 @@ impl Timers {
         }
     }
 
-    // Width 8, offset a multiple of 8.
+    // Width 4 or 8, offset a multiple of the width.
     fn aligned(width: u64, offset: u64) -> bool
         ensures { λ r. ⌜ r ≡ aligned width offset ⌝ }
     {
-        (width == Timers::WIDTH) & (offset % Timers::WIDTH == 0)
+        if width == Timers::WIDTH {
+            return offset % Timers::WIDTH == 0;
+        }
+        (width == Timers::HALF_WIDTH) & (offset % Timers::HALF_WIDTH == 0)
     }
 
     pub fn reading(self, width: u64, offset: u64) -> Turn
@@ -166,7 +169,7 @@ impl Timers {
         }
         Turn {
             timers: self,
-            answer: Answer::Value(self.register(offset)),
+            answer: Answer::Value(self.shown(width, offset)),
         }
     }
 
@@ -179,8 +182,17 @@ impl Timers {
         if Timers::END <= offset {
             return self.refused(Refusal::Offset);
         }
+        if width == Timers::WIDTH {
+            return Turn {
+                timers: self.written(offset, value),
+                answer: Answer::Done,
+            };
+        }
+        if Timers::VALUE_END <= value {
+            return self.refused(Refusal::Value);
+        }
         Turn {
-            timers: self.written(offset, value),
+            timers: self.half_stored(offset, value as u32),
             answer: Answer::Done,
         }
     }
