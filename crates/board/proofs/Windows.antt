@@ -16,8 +16,8 @@ use Rattle.controller.proofs.ReadBack.{reads-index, reads-data}
 use Rattle.controller.proofs.ReadBack.{selects as controller-selects, puts as controller-puts}
 use Rattle.timers.specs.declared.Timers.{Timers}
 use Rattle.timers.specs.Registers.{registerOf, writtenOf}
-use Rattle.timers.specs.Call.{readingOf as timersReading, writingOf as timersWriting}
-use Rattle.timers.proofs.Access.{reading-done, writing-done}
+use Rattle.timers.specs.Call.{readingOf as timersReading, writingOf as timersWriting, turn as timersTurn}
+use Rattle.timers.proofs.Access.{shown-whole, reading-done, writing-whole}
 use Rattle.board.specs.declared.Board.{Board}
 use Rattle.board.specs.declared.Call.the-variants as call
 use Rattle.board.specs.State.{board, withController, turn}
@@ -89,7 +89,7 @@ module _ (b : Board) (z : Formed b) where
   -- the timers' registers stand at multiples of 8 below 0x400
   module _ (o : ℕ) (a : o % 8 ≡ 0) (l : o < 0x400) where
     pub shows : turnOf b (show o) ≡ turn b (value (registerOf (b .timers) o))
-    shows = timers-reads b z 8 o ∙ ap (λ t. turn b (t .answer)) (reading-done (b .timers) 8 o (eq-eqb (o % 8) 0 a) l)
+    shows = timers-reads b z 8 o ∙ ap (λ t. turn b (t .answer)) (reading-done (b .timers) 8 o (eq-eqb (o % 8) 0 a) l ∙ ap (λ (v : ℕ). timersTurn (b .timers) (value v)) (shown-whole (b .timers) 8 o refl))
 
     pub sets : (v : ℕ) → turnOf b (set o v) ≡ turn (joined (b .controller) (writtenOf (b .timers) o v) (b .outside)) ok
-    sets v = timers-writes b z 8 o v ∙ ap (byTimers b) (writing-done (b .timers) 8 o v (eq-eqb (o % 8) 0 a) l)
+    sets v = timers-writes b z 8 o v ∙ ap (byTimers b) (writing-whole (b .timers) 8 o v (eq-eqb (o % 8) 0 a) l refl)

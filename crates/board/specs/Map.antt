@@ -15,12 +15,12 @@ use Rattle.controller.specs.State.{wellFormed as controllerFormed}
 use Rattle.controller.specs.Window.{dataRead, dataWritten, readingOf as controllerReading, writingOf as controllerWriting}
 use Rattle.controller.specs.Steps.{deliveringOf}
 use Rattle.timer.specs.State.{resetTimer}
-use Rattle.timer.specs.Registers.{configurationOf, configuredOf, comparedOf, clearedOf}
+use Rattle.timer.specs.Registers.{configurationOf, configuredOf, setOf, clearedOf}
 use Rattle.timer.specs.Tick.{meets, firing, pulsing, driving}
 use Rattle.timer.specs.Formed.{flagsFit, narrowFits, timerFormed}
 use Rattle.timers.specs.State.{resetTimers}
 use Rattle.timers.specs.Formed.{wellFormed as timersFormed}
-use Rattle.timers.specs.Registers.{statusOf, timerRegister, registerOf, timerWritten, writtenOf}
+use Rattle.timers.specs.Registers.{statusOf, timerRegister, registerOf, timerWritten, writtenOf, shownOf, storedOf}
 use Rattle.timers.specs.Tick.{countedOf, matchesOf, firedOf, drivesOf, pulsesOf, routeOf}
 use Rattle.timers.specs.Call.{readingOf as timersReading, writingOf as timersWriting}
 use Rattle.board.specs.declared.Call.{Call}
@@ -236,9 +236,9 @@ sheet =
     ∷ refuses (call.Read 0 4 0x04) refusal.Offset
     ∷ refuses (call.Write 0 8 0x10 (2 ^ 32)) refusal.Width ∷ refuses (call.Write 0 4 0x04 (2 ^ 32)) refusal.Offset
     ∷ refuses (select (2 ^ 32)) refusal.Value ∷ refuses (put (2 ^ 32)) refusal.Value
-    ∷ refuses (call.Read 1 4 0x000) refusal.Width ∷ refuses (call.Read 1 8 0x004) refusal.Width
+    ∷ refuses (call.Read 1 2 0x000) refusal.Width ∷ refuses (call.Read 1 8 0x004) refusal.Width
     ∷ refuses (call.Read 1 8 0x401) refusal.Width ∷ refuses (call.Read 1 8 0x400) refusal.Offset
-    ∷ refuses (call.Write 1 4 0x0F0 7) refusal.Width ∷ refuses (call.Write 1 8 0x400 7) refusal.Offset ∷ reads index 0 ∷ reads get 0
+    ∷ refuses (call.Write 1 2 0x0F0 7) refusal.Width ∷ refuses (call.Write 1 8 0x400 7) refusal.Offset ∷ reads index 0 ∷ reads get 0
     ∷ reads (show 0x0F0) 0 ∷ [])
     -- M44 a wire change: 3, then 4
     ∷ (refuses (call.Wire 24 2) refusal.Pin ∷ refuses (call.Wire 24 0) refusal.Pin ∷ refuses (call.Wire 23 2) refusal.Level ∷ wire 23 1 ∷ [])
@@ -246,5 +246,5 @@ sheet =
 
 -- the statement computes, so it opens every definition down to the ground
 pub computed : map (λ (l : List Said). answers resetBoard (map (λ (s : Said). s .call) l)) sheet ≡ map (map (λ (s : Said). s .answer)) sheet
-unfolding sheet answers tab firstFrom allFrom modeOf remoteOf levelOf maskedOf withRemote withoutRemote writable written shown wordOk asserted makesEdge heldAfter eligible endedWord pinOk entriesOk levelsOk firstEligible wired ended taken lowShown lowWritten controllerFormed dataRead dataWritten controllerReading controllerWriting deliveringOf resetTimer configurationOf configuredOf comparedOf clearedOf meets firing pulsing driving flagsFit narrowFits timerFormed resetTimers timersFormed statusOf timerRegister registerOf timerWritten writtenOf countedOf matchesOf firedOf drivesOf pulsesOf routeOf timersReading timersWriting highAt wiresOf joined effect turned upTo tick firesIn ticks firings wellFormed readingOf writingOf wiringOf endingOf advancingOf deliveringOnBoard servedOf turnOf
+unfolding sheet answers tab firstFrom allFrom modeOf remoteOf levelOf maskedOf withRemote withoutRemote writable written shown wordOk asserted makesEdge heldAfter eligible endedWord pinOk entriesOk levelsOk firstEligible wired ended taken lowShown lowWritten controllerFormed dataRead dataWritten controllerReading controllerWriting deliveringOf resetTimer configurationOf configuredOf setOf clearedOf meets firing pulsing driving flagsFit narrowFits timerFormed resetTimers timersFormed statusOf timerRegister registerOf timerWritten writtenOf shownOf storedOf countedOf matchesOf firedOf drivesOf pulsesOf routeOf timersReading timersWriting highAt wiresOf joined effect turned upTo tick firesIn ticks firings wellFormed readingOf writingOf wiringOf endingOf advancingOf deliveringOnBoard servedOf turnOf
 computed = refl
