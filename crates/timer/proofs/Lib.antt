@@ -8,14 +8,16 @@
 --   Kept     what keeps it
 --   Bits, Written   register words as the code makes them
 --   ReadBack   a read after a write, bit by bit
+--   Halves, Rewritten   comparator and configuration in halves
 pub mod Width
 pub mod Closed
 pub mod Ran
 pub mod Alone
 pub mod Wire
 pub mod Formed
-pub mod Halves
 pub mod Kept
 pub mod Bits
 pub mod Written
 pub mod ReadBack
+pub mod Halves
+pub mod Rewritten

@@ -39,6 +39,8 @@ reduced-is true x = refl
 reduced-is false x = refl
 
 pub record Reads (x : ℕ) (t : Timer) : Type 0 where
+  pub level : x / 2 ^ 1 % 2 ≡ t .«level_type»
+  pub interrupt : x / 2 ^ 2 % 2 ≡ t .interrupt
   pub periodic : x / 2 ^ 3 % 2 ≡ t .periodic
   pub set : x / 2 ^ 6 % 2 ≡ t .«set_comparator»
   pub narrow : x / 2 ^ 8 % 2 ≡ t .narrow
@@ -47,7 +49,7 @@ pub record Reads (x : ℕ) (t : Timer) : Type 0 where
 read-fields :
     (t : Timer) → t .route < 24 → t .narrow < 2 → t .«set_comparator» < 2 → t .periodic < 2 → t .interrupt < 2 → t .«level_type» < 2 →
     Reads (fields (t .route) (t .narrow) (t .«set_comparator») (t .periodic) (t .interrupt) (t .«level_type»)) t
-read-fields t hr hn hs hp hi hl = record { periodic = omega arith; set = omega arith; narrow = omega arith; route = omega arith }
+read-fields t hr hn hs hp hi hl = record { level = omega arith; interrupt = omega arith; periodic = omega arith; set = omega arith; narrow = omega arith; route = omega arith }
 
 module _ (t : Timer) (z : Formed t) where
   -- a well-formed timer's configuration, by its own numbers

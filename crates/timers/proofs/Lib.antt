@@ -13,6 +13,7 @@
 -- Decided    what the tests decide of a call: reading-decided, writing-decided, decided
 -- Access     what each offset reads and writes; reading-, writing- with -width, -offset, -done
 -- Places     the offsets that there are: what each reads, what a write to it does; Unlisted
+-- Halves     where the halves of a register lie, and each half by the rule for the whole: half-reads, half-writes, half-replaces, ..
 -- ReadBack   a read after a write to the same offset
 -- Others     what a write leaves of the other registers
 -- Advance    what an advance answers: advance-ticked, advance-timers, advance-fired
@@ -37,3 +38,4 @@ pub mod Demands
 pub mod Places
 pub mod ReadBack
 pub mod Others
+pub mod Halves

@@ -88,6 +88,11 @@ halfAt offset = cond (eqb (offset % 8) 0) half.Low half.High
 abbrev pub wholeAt : ℕ → ℕ
 wholeAt offset = offset - offset % 8
 
+-- and where a half of a register is accessed
+abbrev pub placeOf : Half → ℕ → ℕ
+placeOf half.Low offset = offset
+placeOf half.High offset = offset + 4
+
 -- a half write replaces that half of a counter or configuration and then follows the rule for the whole register; a status write takes the
 -- missing half as zeros
 abbrev pub filled : Timers → Half → ℕ → ℕ → ℕ
