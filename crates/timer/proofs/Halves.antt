@@ -34,41 +34,34 @@ other half.High = half.Low
 
 -- a half is below 2^32
 pub half-lt : (h : Half) (x : ℕ) → x < 2 ^ 64 → halfOf h x < 2 ^ 32
-unfolding halfOf
 half-lt half.Low x l = omega arith
 half-lt half.High x l = omega arith
 
 pub halves-whole : (x : ℕ) → halfOf half.High x * 2 ^ 32 + halfOf half.Low x ≡ x
-unfolding halfOf
 halves-whole x = omega arith
 
 -- a half replaced by itself
 pub replaced-same : (h : Half) (x : ℕ) → replaced h x (halfOf h x) ≡ x
-unfolding halfOf replaced
 replaced-same half.Low x = omega arith
 replaced-same half.High x = omega arith
 
 -- both halves replaced, whichever comes first
 pub replaced-both : (h : Half) (x v : ℕ) → replaced (other h) (replaced h x (halfOf h v)) (halfOf (other h) v) ≡ v
-unfolding halfOf replaced
 replaced-both half.Low x v = omega arith
 replaced-both half.High x v = omega arith
 
 -- ---- a comparator in halves, at both widths: in 32-bit mode numbers are reduced modulo 2^32
 
 reduced-both : (b : Bool) (h : Half) (x v : ℕ) → reduced b (replaced (other h) (reduced b (replaced h x (halfOf h v))) (halfOf (other h) v)) ≡ reduced b v
-unfolding halfOf replaced
 reduced-both false h x v = replaced-both h x v
 reduced-both true half.Low x v = omega arith
 reduced-both true half.High x v = omega arith
 
 -- "A high half in 32-bit mode stores 0": the low half is kept
 reduced-high : (x v : ℕ) → reduced true (replaced half.High x v) ≡ x % 2 ^ 32
-unfolding replaced
 reduced-high x v = omega arith
 
 reduced-low : (x v : ℕ) → v < 2 ^ 32 → reduced true (replaced half.Low x v) ≡ v
-unfolding replaced
 reduced-low x v l = omega arith
 
 -- what a write to a comparator register leaves, by the timer's mode

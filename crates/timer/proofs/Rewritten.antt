@@ -43,11 +43,9 @@ configured-alike t x y a =
 
 -- the low half has them all
 low-alike : (x v w : ℕ) → v ≡ halfOf half.Low w → Alike (replaced half.Low x v) w
-unfolding replaced halfOf
 low-alike x v w e = record { level = omega arith; interrupt = omega arith; periodic = omega arith; set = omega arith; narrow = omega arith; route = omega arith }
 
 high-alike : (x v : ℕ) → Alike (replaced half.High x v) x
-unfolding replaced
 high-alike x v = record { level = omega arith; interrupt = omega arith; periodic = omega arith; set = omega arith; narrow = omega arith; route = omega arith }
 
 -- what fits in 32 bits is not reduced

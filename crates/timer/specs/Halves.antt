@@ -4,11 +4,11 @@ use Rattle.timer.specs.declared.Half.{Half}
 use Rattle.timer.specs.declared.Half.the-variants as half
 
 -- that half of a number
-unfoldable pub halfOf : Half → ℕ → ℕ
+abbrev pub halfOf : Half → ℕ → ℕ
 halfOf half.Low x = x % 2 ^ 32
 halfOf half.High x = x / 2 ^ 32
 
 -- a number with that half replaced
-unfoldable pub replaced : Half → ℕ → ℕ → ℕ
+abbrev pub replaced : Half → ℕ → ℕ → ℕ
 replaced half.Low x v = x / 2 ^ 32 * 2 ^ 32 + v
 replaced half.High x v = v * 2 ^ 32 + x % 2 ^ 32

@@ -39,3 +39,4 @@ pub mod Places
 pub mod ReadBack
 pub mod Others
 pub mod Halves
+pub mod InHalves

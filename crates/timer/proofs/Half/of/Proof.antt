@@ -15,11 +15,9 @@ enum-told-2 : tie.Need-enum-told-2
 enum-told-2 c = search needs
 
 returns : tie.Need-returns
-unfolding halfOf
 returns c = and-mask (c .before .before .args .x) 32 ∙ sym (ap (λ (h : Half). halfOf h (c .before .before .args .x)) (c .enum-told .given .1))
 
 returns-2 : tie.Need-returns-2
-unfolding halfOf
 returns-2 c = sym (ap (λ (h : Half). halfOf h (c .before .before .args .x)) (c .enum-told2 .given .1))
 
 pub of-spec : {M : Type 1} → statement M

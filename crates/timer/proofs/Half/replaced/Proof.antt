@@ -16,13 +16,11 @@ enum-told-2 : tie.Need-enum-told-2
 enum-told-2 c = search needs
 
 returns : tie.Need-returns
-unfolding replaced
 returns c =
     let a = c .before .before .args in
     low-code (a .x) (a .value) (omega arith) (omega arith) ∙ sym (ap (λ (h : Half). replaced h (a .x) (a .value)) (c .enum-told .given .1))
 
 returns-2 : tie.Need-returns-2
-unfolding replaced
 returns-2 c =
     let a = c .before .before .args in
     high-code (a .x) (a .value) (omega arith) ∙ sym (ap (λ (h : Half). replaced h (a .x) (a .value)) (c .enum-told2 .given .1))
