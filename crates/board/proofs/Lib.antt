@@ -18,4 +18,5 @@ pub mod Leaves
 pub mod Windows
 pub mod ControllerMap
 pub mod TimersMap
+pub mod Halves
 pub mod Words

@@ -56,7 +56,7 @@ module _ (b : Board) (z : Formed b) (w o : ℕ) where
   unfolding readingOf
   controller-reads = served b (call.Read 0 w o) (formed-out b z) ∙ served-read b 0 w o
 
-  timers-reads : turnOf b (call.Read 1 w o) ≡ turn b (timersReading (b .timers) w o .answer)
+  pub timers-reads : turnOf b (call.Read 1 w o) ≡ turn b (timersReading (b .timers) w o .answer)
   unfolding readingOf
   timers-reads = served b (call.Read 1 w o) (formed-out b z) ∙ served-read b 1 w o
 

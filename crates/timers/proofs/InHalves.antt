@@ -22,7 +22,7 @@ use Rattle.timer.proofs.Rewritten.{configured-low, configured-high}
 use Rattle.timers.specs.declared.Timers.{Timers}
 use Rattle.timers.specs.State.{at, isEnabled, withCounter, withEnabled, withList, withTimers, withTimer}
 use Rattle.timers.specs.Formed.{Formed}
-use Rattle.timers.specs.Registers.{registerOf, writtenOf, halfWritten}
+use Rattle.timers.specs.Registers.{numbered, ofTimer, isConfiguration, isComparator, registerOf, clearedBy, timerWritten, writtenOf, halfWritten}
 use Rattle.timers.specs.Tick.{drivesOf}
 use Rattle.timers.proofs.Three.{three-same, at-with, at-same, eta}
 use Rattle.timers.proofs.Access.{read-enabled, read-counter, write-enabled, write-status, write-counter}
@@ -134,6 +134,32 @@ module _ (s : Timers) (z : Formed s) where
         go (configuration n l e) = subst (LowOnly s) (sym e) (configuration-low-only n l)
         go (comparator n l e) = absurd (c n l e)
         go (unlisted u) = ignored-low-only o (u .no-status) c (unlisted-write s o u)
+
+-- a write leaves three timers
+pub written-three : (s : Timers) (o v : ℕ) → length (s .timer) ≡ 3 → length (writtenOf s o v .timer) ≡ 3
+unfolding writtenOf timerWritten
+written-three s o v size = go (eqb o 0x010) (eqb o 0x020) (eqb o 0x0F0) (isEnabled s) (ofTimer o) (isConfiguration o) (isComparator o)
+  where
+    n : ℕ
+    n = numbered o
+
+    go :
+        (a b c d e f g : Bool) →
+        length
+        (cond a (withEnabled s (bit 0 v))
+        (cond b (withTimers s (clearedBy v s))
+        (cond c (cond d s (withCounter s v))
+        (cond e (cond f (withTimer s n (configuredOf (at s n) v)) (cond g (withTimer s n (comparedOf (at s n) v)) s)) s)))
+        .timer)
+        ≡ 3
+    go true b c d e f g = size
+    go false true c d e f g = refl
+    go false false true true e f g = size
+    go false false true false e f g = size
+    go false false false d true true g = refl
+    go false false false d true false true = refl
+    go false false false d true false false = size
+    go false false false d false f g = size
 
 -- ---- the 64-bit registers: one half, and then the other
 
