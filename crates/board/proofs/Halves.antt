@@ -1,14 +1,12 @@
 -- "Timer registers in halves" (document 02, K1), as calls of a well-formed board show them.
-use Prim.Native.Nat.{ℕ, _+_, _*_, _/_, _%_, _^_, _<_}
+use Prim.Native.Nat.{ℕ, _+_, _*_, _%_, _^_, _<_}
 use mathlib.Core.Path.{_≡_, refl, sym, ap, ap₂, _∙_}
-use mathlib.Core.Bool.{cond}
 use mathlib.Core.List.{List, [], _∷_}
 use native.Mathlib.Omega.{arith}
 use lib.ListN.{length}
 use Rattle.answers.specs.Sheet.{ok, value}
 use Rattle.entries.specs.declared.Entries.{Entries}
 use Rattle.entries.proofs.Pulse.{wired-same}
-use Rattle.controller.specs.declared.Controller.{Controller}
 use Rattle.controller.specs.State.{withEntries}
 use Rattle.controller.specs.Steps.{rewired}
 use Rattle.timer.specs.declared.Half.{Half}
@@ -29,7 +27,7 @@ use Rattle.board.specs.State.{board, turn}
 use Rattle.board.specs.Wires.{joined}
 use Rattle.board.specs.Step.{byTimers, turnOf}
 use Rattle.board.specs.Runs.{run, answers}
-use Rattle.board.specs.Accesses.{set, show, setHalf, showHalf, configuration, comparator}
+use Rattle.board.specs.Accesses.{set, setHalf, showHalf, comparator}
 use Rattle.board.proofs.Formed.{Formed}
 use Rattle.board.proofs.Keeps.{keeps}
 use Rattle.board.proofs.Rule.{wires-same}

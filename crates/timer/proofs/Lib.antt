@@ -8,7 +8,8 @@
 --   Kept     what keeps it
 --   Bits, Written   register words as the code makes them
 --   ReadBack   a read after a write, bit by bit
---   Halves, Rewritten   comparator and configuration in halves
+--   Halves   numbers in halves
+--   Compared, Rewritten   a comparator, a configuration that is written in halves
 pub mod Width
 pub mod Closed
 pub mod Ran
@@ -20,4 +21,5 @@ pub mod Bits
 pub mod Written
 pub mod ReadBack
 pub mod Halves
+pub mod Compared
 pub mod Rewritten

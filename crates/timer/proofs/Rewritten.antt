@@ -6,13 +6,13 @@ use native.Mathlib.Nat.{mod-eq-of-lt}
 use native.Mathlib.Omega.{arith}
 use native.Mathlib.Decide.{ℕ-discrete}
 use lib.Dec.{ltb}
-use borrow.Author.Tests.{eqb-true, eqb-false, eq-eqb, lt-ltb}
+use borrow.Author.Tests.{eqb-true, eq-eqb, lt-ltb}
 use Rattle.timer.specs.declared.Timer.{Timer}
 use Rattle.timer.specs.declared.Half.the-variants as half
-use Rattle.timer.specs.State.{flag, reduced, narrowed}
+use Rattle.timer.specs.State.{flag, reduced}
 use Rattle.timer.specs.Formed.{Formed}
 use Rattle.timer.specs.Halves.{halfOf, replaced}
-use Rattle.timer.specs.Registers.{bit, routed, configurationOf, configuredOf}
+use Rattle.timer.specs.Registers.{bit, configurationOf, configuredOf}
 use Rattle.timer.proofs.ReadBack.{Reads, configuration-reads}
 
 -- two numbers with the same writable bits

@@ -16,7 +16,7 @@ use Rattle.answers.specs.declared.Answer.the-variants as answer
 use Rattle.timer.specs.declared.Timer.{Timer}
 use Rattle.timer.specs.declared.Half.{Half}
 use Rattle.timer.specs.State.{flag}
-use Rattle.timer.specs.Halves.{halfOf, replaced}
+use Rattle.timer.specs.Halves.{halfOf}
 use Rattle.timer.specs.Registers.{bit, placed, configuredOf, comparedOf, halfComparedOf, clearedOf}
 use Rattle.timers.specs.declared.Timers.{Timers}
 use Rattle.timers.specs.State.{at, isEnabled, withCounter, withEnabled, withList, withTimers, withTimer}

@@ -1,21 +1,18 @@
 -- The block's registers in halves: each half by the rule for the whole register.
-use Prim.Native.Nat.{ℕ, _+_, _*_, _/_, _%_, _^_, _≤_, _<_}
-use mathlib.Core.Path.{_≡_, refl, sym, ap, ap₂, _∙_}
+use Prim.Native.Nat.{ℕ, _+_, _*_, _%_, _^_, _<_}
+use mathlib.Core.Path.{_≡_, refl, ap, _∙_}
 use mathlib.Core.Bool.{Bool, true, false, cond, _&&_}
 use native.Mathlib.Omega.{arith}
 use native.Mathlib.Decide.{decLt, ℕ-discrete}
-use lib.Dec.{eqb, leb, ltb}
-use lib.ListN.{length}
 use borrow.Author.Tests.{eq-eqb, ne-eqb, le-leb, lt-leb, lt-ltb, le-ltb}
 use Rattle.answers.specs.declared.Answer.the-variants as answer
-use Rattle.timer.specs.declared.Timer.{Timer}
 use Rattle.timer.specs.declared.Half.{Half}
 use Rattle.timer.specs.declared.Half.the-variants as half
 use Rattle.timer.specs.Halves.{halfOf, replaced}
 use Rattle.timer.specs.Registers.{halfComparedOf}
 use Rattle.timers.specs.declared.Timers.{Timers}
 use Rattle.timers.specs.State.{at, withTimer}
-use Rattle.timers.specs.Registers.{aligned, numbered, ofTimer, isComparator, registerOf, writtenOf, halfAt, wholeAt, placeOf, filled, halfWritten}
+use Rattle.timers.specs.Registers.{aligned, numbered, ofTimer, isComparator, registerOf, writtenOf, halfAt, wholeAt, placeOf, halfWritten}
 use Rattle.timers.specs.Call.{turn, readingOf, writingOf}
 use Rattle.timers.proofs.Access.{reading-done, shown-half, writing-half, half-comparator, half-filled}
 

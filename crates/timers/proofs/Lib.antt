@@ -14,6 +14,8 @@
 -- Access     what each offset reads and writes; reading-, writing- with -width, -offset, -done
 -- Places     the offsets that there are: what each reads, what a write to it does; Unlisted
 -- Halves     where the halves of a register lie, and each half by the rule for the whole: half-reads, half-writes, half-replaces, ..
+-- LowOnly    registers whose low half is all that can be written
+-- InHalves   the counter and a comparator, one half and then the other
 -- ReadBack   a read after a write to the same offset
 -- Others     what a write leaves of the other registers
 -- Advance    what an advance answers: advance-ticked, advance-timers, advance-fired
@@ -39,4 +41,5 @@ pub mod Places
 pub mod ReadBack
 pub mod Others
 pub mod Halves
+pub mod LowOnly
 pub mod InHalves

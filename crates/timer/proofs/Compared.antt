@@ -1,0 +1,194 @@
+-- A comparator that is written in halves: which write of the whole it is.
+use Prim.Native.Nat.{ℕ, _%_, _^_, _<_}
+use mathlib.Core.Path.{_≡_, refl, sym, ap, ap₂, _∙_}
+use mathlib.Core.Bool.{Bool, true, false, cond}
+use native.Mathlib.Nat.{mod-eq-of-lt}
+use native.Mathlib.Omega.{arith}
+use native.Mathlib.Decide.{ℕ-discrete}
+use borrow.Author.Tests.{eqb-false}
+use Rattle.timer.specs.declared.Timer.{Timer}
+use Rattle.timer.specs.declared.Half.{Half}
+use Rattle.timer.specs.declared.Half.the-variants as half
+use Rattle.timer.specs.State.{flag, reduced, narrowed, withComparator, withPeriod, withSet}
+use Rattle.timer.specs.Formed.{Formed}
+use Rattle.timer.specs.Halves.{halfOf, replaced}
+use Rattle.timer.specs.Registers.{setOf, comparedOf, halfComparedOf}
+use Rattle.timer.proofs.Halves.{other, replaced-both}
+
+-- ---- at both widths: in 32-bit mode numbers are reduced modulo 2^32
+
+reduced-both : (b : Bool) (h : Half) (x v : ℕ) → reduced b (replaced (other h) (reduced b (replaced h x (halfOf h v))) (halfOf (other h) v)) ≡ reduced b v
+reduced-both false h x v = replaced-both h x v
+reduced-both true half.Low x v = omega arith
+reduced-both true half.High x v = omega arith
+
+-- "A high half in 32-bit mode stores 0": the low half is kept
+reduced-high : (x v : ℕ) → reduced true (replaced half.High x v) ≡ x % 2 ^ 32
+reduced-high x v = omega arith
+
+reduced-low : (x v : ℕ) → v < 2 ^ 32 → reduced true (replaced half.Low x v) ≡ v
+reduced-low x v l = omega arith
+
+-- what a write to a comparator register leaves, by the timer's mode
+module _ (t : Timer) (c p : ℕ) where
+  abbrev periodicSet : Timer
+  periodicSet = withSet (withPeriod (withComparator t (cond (flag (t .«set_comparator»)) (reduced (narrowed t) c) (t .comparator))) (reduced (narrowed t) p)) 0
+
+  abbrev onceSet : Timer
+  onceSet = withComparator t (reduced (narrowed t) c)
+
+  set-periodic : flag (t .periodic) ≡ true → setOf t c p ≡ periodicSet
+  unfolding setOf
+  set-periodic e = rw e
+
+  set-once : flag (t .periodic) ≡ false → setOf t c p ≡ onceSet
+  unfolding setOf
+  set-once e = rw e
+
+module _ (t : Timer) (h : Half) (v : ℕ) where
+  -- one half, and then the other
+  abbrev pub inHalves : Timer
+  inHalves = halfComparedOf (halfComparedOf t h (halfOf h v)) (other h) (halfOf (other h) v)
+
+  -- what the first half makes of the comparator, and of the period
+  abbrev first : ℕ
+  first = replaced h (t .comparator) (halfOf h v)
+
+  abbrev firstPeriod : ℕ
+  firstPeriod = replaced h (t .period) (halfOf h v)
+
+  -- whichever comes first: as if that half of the comparator were written with its other half as it is, and then the whole number. The second
+  -- write finds bit 6 cleared
+  pub halves-set : inHalves ≡ comparedOf (comparedOf t first) v
+  halves-set = go (flag (t .periodic)) refl
+    where
+      second : ℕ → ℕ
+      second x = replaced (other h) (reduced (narrowed t) x) (halfOf (other h) v)
+
+      go : (b : Bool) → flag (t .periodic) ≡ b → inHalves ≡ comparedOf (comparedOf t first) v
+      go true e =
+          ap (λ (u : Timer). halfComparedOf u (other h) (halfOf (other h) v)) (set-periodic t first firstPeriod e)
+          ∙ set-periodic (periodicSet t first firstPeriod) _ (second firstPeriod) e
+          ∙ ap (withPeriod (periodicSet t first first)) (reduced-both (narrowed t) h (t .period) v)
+          ∙ sym (set-periodic (periodicSet t first first) v v e)
+          ∙ sym (ap (λ (u : Timer). comparedOf u v) (set-periodic t first first e))
+      go false e =
+          ap (λ (u : Timer). halfComparedOf u (other h) (halfOf (other h) v)) (set-once t first firstPeriod e)
+          ∙ set-once (onceSet t first firstPeriod) (second first) _ e
+          ∙ ap (withComparator t) (reduced-both (narrowed t) h (t .comparator) v)
+          ∙ sym (set-once (onceSet t first first) v v e)
+          ∙ sym (ap (λ (u : Timer). comparedOf u v) (set-once t first first e))
+
+-- ---- one half by itself
+
+module _ (t : Timer) (h : Half) (v : ℕ) where
+  -- one-shot: that half of the comparator
+  pub half-once : flag (t .periodic) ≡ false → halfComparedOf t h v ≡ comparedOf t (replaced h (t .comparator) v)
+  half-once e = set-once t _ _ e ∙ sym (set-once t _ _ e)
+
+  -- periodic: that half of the period, and of the comparator too if bit 6 is 1; each keeps its own other half
+  pub half-periodic :
+      flag (t .periodic) ≡ true →
+      halfComparedOf t h v
+      ≡ withSet
+      (withPeriod (withComparator t (cond (flag (t .«set_comparator»)) (reduced (narrowed t) (replaced h (t .comparator) v)) (t .comparator)))
+      (reduced (narrowed t) (replaced h (t .period) v)))
+      0
+  half-periodic e = set-periodic t _ _ e
+
+-- ---- in 32-bit mode
+
+-- numbers that are the same once reduced are written the same
+set-reduced :
+    (t : Timer) (c p c' p' : ℕ) → reduced (narrowed t) c ≡ reduced (narrowed t) c' → reduced (narrowed t) p ≡ reduced (narrowed t) p' → setOf t c p ≡ setOf t c' p'
+set-reduced t c p c' p' e f = go (flag (t .periodic)) refl
+  where
+    go : (b : Bool) → flag (t .periodic) ≡ b → setOf t c p ≡ setOf t c' p'
+    go true q =
+        set-periodic t c p q
+        ∙ ap₂ (λ (x y : ℕ). withSet (withPeriod (withComparator t (cond (flag (t .«set_comparator»)) x (t .comparator))) y) 0) e f
+        ∙ sym (set-periodic t c' p' q)
+    go false q = set-once t c p q ∙ ap (withComparator t) e ∙ sym (set-once t c' p' q)
+
+module _ (t : Timer) (w : t .narrow ≡ 1) where
+  -- the low half is the whole number
+  pub narrow-low : (v : ℕ) → v < 2 ^ 32 → halfComparedOf t half.Low v ≡ comparedOf t v
+  narrow-low v l = set-reduced t _ _ v v (to (t .comparator)) (to (t .period))
+    where
+      to : (x : ℕ) → reduced (narrowed t) (replaced half.Low x v) ≡ reduced (narrowed t) v
+      to x = rw w (reduced-low x v l ∙ sym (mod-eq-of-lt {n = v} {m = 2 ^ 32} l))
+
+  -- "A high half in 32-bit mode stores 0": the number is as it was, and bit 6 is cleared
+  pub narrow-high : Formed t → (v : ℕ) → halfComparedOf t half.High v ≡ withSet t 0
+  narrow-high z v = go (flag (t .periodic)) refl
+    where
+      kept : (x : ℕ) → x < 2 ^ 32 → reduced (narrowed t) (replaced half.High x v) ≡ x
+      kept x l = rw w (reduced-high x v ∙ mod-eq-of-lt {n = x} {m = 2 ^ 32} l)
+
+      same : (b : Bool) (x y : ℕ) → x ≡ y → cond b x y ≡ y
+      same true x y e = e
+      same false x y e = refl
+
+      c : reduced (narrowed t) (replaced half.High (t .comparator) v) ≡ t .comparator
+      c = kept (t .comparator) (z .comparator-fits w)
+
+      unset : flag (t .periodic) ≡ false → t .«set_comparator» ≡ 0
+      unset e = by (ℕ-discrete (t .«set_comparator») 0)
+        where
+          by : Dec (t .«set_comparator» ≡ 0) → t .«set_comparator» ≡ 0
+          by (yes q) = q
+          by (no n) = absurd (omega (arith, eqb-false (t .periodic) 1 e, z .set-periodic n))
+
+      go : (b : Bool) → flag (t .periodic) ≡ b → halfComparedOf t half.High v ≡ withSet t 0
+      go true e =
+          set-periodic t _ _ e
+          ∙ ap₂ (λ (x y : ℕ). withSet (withPeriod (withComparator t x) y) 0) (same (flag (t .«set_comparator»)) _ (t .comparator) c) (kept (t .period) (z .period-fits w))
+      go false e = set-once t _ _ e ∙ ap₂ (λ (x y : ℕ). withSet (withComparator t x) y) c (unset e)
+
+-- ---- in halves without bit 6: the whole write
+
+module _ (t : Timer) (v : ℕ) where
+  -- a number that was set is set again
+  set-again : (x : ℕ) → flag (t .«set_comparator») ≡ false → comparedOf (comparedOf t x) v ≡ comparedOf t v
+  set-again x s = go (flag (t .periodic)) refl
+    where
+      go : (b : Bool) → flag (t .periodic) ≡ b → comparedOf (comparedOf t x) v ≡ comparedOf t v
+      go true e =
+          ap (λ (u : Timer). comparedOf u v) (set-periodic t x x e)
+          ∙ set-periodic (periodicSet t x x) v v e
+          ∙ ap (λ (b : Bool). withSet (withPeriod (withComparator t (cond b (reduced (narrowed t) x) (t .comparator))) (reduced (narrowed t) v)) 0) s
+          ∙ sym (ap (λ (b : Bool). withSet (withPeriod (withComparator t (cond b (reduced (narrowed t) v) (t .comparator))) (reduced (narrowed t) v)) 0) s)
+          ∙ sym (set-periodic t v v e)
+      go false e =
+          ap (λ (u : Timer). comparedOf u v) (set-once t x x e)
+          ∙ set-once (onceSet t x x) v v e
+          ∙ sym (set-once t v v e)
+
+  pub halves-whole-set : (h : Half) → flag (t .«set_comparator») ≡ false → inHalves t h v ≡ comparedOf t v
+  halves-whole-set h s = halves-set t h v ∙ set-again (first t h v) s
+
+-- ---- in halves in 32-bit mode, with bit 6 and without
+
+module _ (t : Timer) (w : t .narrow ≡ 1) (v : ℕ) (l : v < 2 ^ 64) where
+  -- what is written again is there already
+  same-again : comparedOf (comparedOf t v) v ≡ comparedOf t v
+  same-again = go (flag (t .periodic)) refl
+    where
+      go : (b : Bool) → flag (t .periodic) ≡ b → comparedOf (comparedOf t v) v ≡ comparedOf t v
+      go true e = ap (λ (u : Timer). comparedOf u v) (set-periodic t v v e) ∙ set-periodic (periodicSet t v v) v v e ∙ sym (set-periodic t v v e)
+      go false e = ap (λ (u : Timer). comparedOf u v) (set-once t v v e) ∙ set-once (onceSet t v v) v v e ∙ sym (set-once t v v e)
+
+  -- the whole number, if its low half is the same
+  by-low : (x : ℕ) → x % 2 ^ 32 ≡ v % 2 ^ 32 → comparedOf t x ≡ comparedOf t v
+  by-low x e = set-reduced t x x v v (rw w e) (rw w e)
+
+  -- low then high is the whole write
+  pub narrow-low-first : inHalves t half.Low v ≡ comparedOf t v
+  narrow-low-first = halves-set t half.Low v ∙ ap (λ (u : Timer). comparedOf u v) (by-low (first t half.Low v) (omega arith)) ∙ same-again
+
+  -- high then low sets the period only: the comparator is set to what it is
+  pub narrow-high-first : Formed t → inHalves t half.High v ≡ comparedOf (comparedOf t (t .comparator)) v
+  narrow-high-first z = halves-set t half.High v ∙ ap (λ (u : Timer). comparedOf u v) (set-reduced t _ _ (t .comparator) (t .comparator) same same)
+    where
+      same : reduced (narrowed t) (first t half.High v) ≡ reduced (narrowed t) (t .comparator)
+      same = rw w (reduced-high (t .comparator) (halfOf half.High v))
