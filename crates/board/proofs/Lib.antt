@@ -19,4 +19,6 @@ pub mod Windows
 pub mod ControllerMap
 pub mod TimersMap
 pub mod Halves
+pub mod ComparatorHalves
+pub mod InHalves
 pub mod Words

@@ -39,6 +39,9 @@ bit k v = v / 2 ^ k % 2 * 2 ^ k
 abbrev pub left : ℕ → ℕ → ℕ → ℕ
 left k r v = r / 2 ^ k % 2 * (1 - v / 2 ^ k % 2) * 2 ^ k
 
+pub less : (x y w : ℕ) → x + y ≡ w → x ≡ w - y
+less x y w h = omega arith
+
 -- ---- the accesses, by what the timers make of them
 
 module _ (b : Board) (z : Formed b) (o : ℕ) (a : o % 8 ≡ 0) (l : o < 0x400) where
@@ -185,9 +188,6 @@ module _ (b : Board) (z : Formed b) (v n k : ℕ) (l : n < 3) (e : register b (c
     where
       unset : ℕ
       unset = registerOf (writtenOf block (comparator n) v) (configuration n)
-
-      less : (x y w : ℕ) → x + y ≡ w → x ≡ w - y
-      less x y w h = omega arith
 
 -- ---- what a write leaves of the other registers
 

@@ -130,7 +130,7 @@ module _ (s : Timers) (n : ℕ) (l : n < 3) (w : at s n .narrow ≡ 1) where
 -- ---- one half of a comparator
 
 module _ (s : Timers) (z : Formed s) (h : Half) (v n : ℕ) (l : n < 3) where
-  half-compared-at : at (halfWritten s h (0x108 + 0x20 * n) v) n ≡ halfComparedOf (at s n) h v
+  pub half-compared-at : at (halfWritten s h (0x108 + 0x20 * n) v) n ≡ halfComparedOf (at s n) h v
   half-compared-at = ap (λ (x : Timers). at x n) (half-compares s h v n l) ∙ at-same s n (halfComparedOf (at s n) h v) l
 
   -- "Bit 6 clears at the first half"; the other bits of the configuration stay
