@@ -17,6 +17,11 @@ def of_timer(offset):
     return ((offset - 0x100) // 0x20, offset % 0x20 == 8) if inside else None
 
 
+def half(window, width, offset):
+    """The half of a timer register that a 4-byte access names, or None: the register itself is at the multiple of 8."""
+    return {0: "low half", 4: "high half"}.get(offset % 8) if (window, width) == (1, 4) else None
+
+
 def register(window, offset, index):
     if window == 0:
         return {0x00: "index", 0x10: indexed(index)}.get(offset, f"offset 0x{offset:02x}, no register")
@@ -41,11 +46,15 @@ def configuration(value):
     return ", ".join(parts + [said for bit, said in bits if value >> bit & 1] + [f"route {value >> 9 & 0x1F}"])
 
 
-def meaning(window, offset, index, value):
-    """What a written value says, in parentheses, where it is more than a number."""
+def meaning(window, part, offset, index, value):
+    """What a written value, or that half of it, says, in parentheses, where it is more than a number."""
     timer = of_timer(offset)
-    if window == 0 and value >= 2**32:
+    number = offset == 0x0F0 or timer and timer[1]
+    if value >= 2**32 and (window == 0 or part):
         said = "more than 4 bytes"
+    elif part == "high half":
+        # only a counter and a comparator have something there
+        return "" if number else " (changes nothing)"
     elif window == 0 and offset == 0:
         said = indexed(value & 0xFF)
     elif window == 0 and offset == 0x10 and 0x10 <= index <= 0x3F:
@@ -56,7 +65,7 @@ def meaning(window, offset, index, value):
         said = "enable" if value & 1 else "disable"
     elif window == 1 and offset == 0x020:
         said = "clear " + (", ".join(f"timer {m}" for m in range(3) if value >> m & 1) or "nothing")
-    elif window == 1 and value > 9 and (timer or offset == 0x0F0):
+    elif window == 1 and value > 9 and number:
         said = str(value)
     else:
         return ""
@@ -68,9 +77,12 @@ def explained(word, values, index):
     if word in ("read", "write"):
         window, width, offset, *value = values
         name = {0: "controller", 1: "timers"}.get(window, f"window {window}, which doesn't exist")
-        odd = f", width {width}" if width != {0: 4, 1: 8}.get(window) else ""
-        said = f"{word} {name}{odd}, {register(window, offset, index)}"
-        return said + "".join(f": 0x{v:0{16 if window else 8}x}{meaning(window, offset, index, v)}" for v in value)
+        part = half(window, width, offset)
+        odd = f", width {width}" if width != {0: 4, 1: 8}.get(window) and not part else ""
+        whole = offset - offset % 8 if part else offset
+        said = f"{word} {name}{odd}, {part + ' of ' if part else ''}{register(window, whole, index)}"
+        digits = 8 if window == 0 or part else 16
+        return said + "".join(f": 0x{v:0{digits}x}{meaning(window, part, whole, index, v)}" for v in value)
     if word == "wire":
         pin, level = values
         return f"wire of pin {pin} " + {0: "low", 1: "high"}.get(level, f"to level {level}, which doesn't exist")
