@@ -17,7 +17,7 @@ use Rattle.controller.proofs.ReadBack.{selects as controller-selects, puts as c
 use Rattle.timers.specs.declared.Timers.{Timers}
 use Rattle.timers.specs.Registers.{registerOf, writtenOf}
 use Rattle.timers.specs.Call.{readingOf as timersReading, writingOf as timersWriting, turn as timersTurn}
-use Rattle.timers.proofs.Access.{shown-whole, reading-done, writing-whole}
+use Rattle.timers.proofs.Access.{reading-done, writing-done, shown-whole, stored-whole}
 use Rattle.board.specs.declared.Board.{Board}
 use Rattle.board.specs.declared.Call.the-variants as call
 use Rattle.board.specs.State.{board, withController, turn}
@@ -92,4 +92,4 @@ module _ (b : Board) (z : Formed b) where
     shows = timers-reads b z 8 o ∙ ap (λ t. turn b (t .answer)) (reading-done (b .timers) 8 o (eq-eqb (o % 8) 0 a) l ∙ ap (λ (v : ℕ). timersTurn (b .timers) (value v)) (shown-whole (b .timers) 8 o refl))
 
     pub sets : (v : ℕ) → turnOf b (set o v) ≡ turn (joined (b .controller) (writtenOf (b .timers) o v) (b .outside)) ok
-    sets v = timers-writes b z 8 o v ∙ ap (byTimers b) (writing-whole (b .timers) 8 o v (eq-eqb (o % 8) 0 a) l refl)
+    sets v = timers-writes b z 8 o v ∙ ap (byTimers b) (writing-done (b .timers) 8 o v (eq-eqb (o % 8) 0 a) l refl ∙ ap (λ (x : Timers). timersTurn x ok) (stored-whole (b .timers) 8 o v refl))

@@ -22,7 +22,7 @@ use Rattle.timers.specs.declared.Timers.{Timers}
 use Rattle.timers.specs.State.{at, isEnabled, withCounter, withEnabled, withList, withTimers, withTimer}
 use Rattle.timers.specs.Formed.{wellFormed}
 use Rattle.timers.specs.Registers.{aligned, numbered, statusOf, timerRegister, registerOf, clearedBy, timerWritten, writtenOf}
-use Rattle.timers.specs.Registers.{ofTimer, isComparator, halfAt, wholeAt, filled, halfWritten, shownOf, storedOf}
+use Rattle.timers.specs.Registers.{fits, ofTimer, isComparator, halfAt, wholeAt, filled, halfWritten, shownOf, storedOf}
 use Rattle.timers.specs.Inner.{timerPut}
 use Rattle.timers.proofs.Three.{three-same, eta}
 use Rattle.timers.specs.Call.{turn, refused, readingOf, writingOf, readOf, writeOf}
@@ -157,18 +157,21 @@ module _ (s : Timers) (w o : ℕ) where
     unfolding writingOf
     writing-offset e l = rw (e, le-ltb o 0x400 l)
 
-    pub writing-whole : aligned w o ≡ true → o < 0x400 → w ≡ 8 → writingOf s w o v ≡ turn (writtenOf s o v) answer.Done
-    unfolding writingOf storedOf
-    writing-whole e l q = rw (e, lt-ltb o 0x400 l, eq-eqb w 8 q)
+    pub writing-value : aligned w o ≡ true → o < 0x400 → fits w v ≡ false → writingOf s w o v ≡ refused s refusal.Value
+    unfolding writingOf
+    writing-value e l f = rw (e, lt-ltb o 0x400 l, f)
 
-    module _ (n : w ≡ 8 → ⊥) where
-      pub writing-value : aligned w o ≡ true → o < 0x400 → 2 ^ 32 ≤ v → writingOf s w o v ≡ refused s refusal.Value
-      unfolding writingOf
-      writing-value e l g = rw (e, lt-ltb o 0x400 l, ne-eqb w 8 n, le-ltb v (2 ^ 32) g)
+    pub writing-done : aligned w o ≡ true → o < 0x400 → fits w v ≡ true → writingOf s w o v ≡ turn (storedOf s w o v) answer.Done
+    unfolding writingOf
+    writing-done e l f = rw (e, lt-ltb o 0x400 l, f)
 
-      pub writing-half : aligned w o ≡ true → o < 0x400 → v < 2 ^ 32 → writingOf s w o v ≡ turn (halfWritten s (halfAt o) (wholeAt o) v) answer.Done
-      unfolding writingOf storedOf
-      writing-half e l g = rw (e, lt-ltb o 0x400 l, ne-eqb w 8 n, lt-ltb v (2 ^ 32) g)
+    pub stored-whole : w ≡ 8 → storedOf s w o v ≡ writtenOf s o v
+    unfolding storedOf
+    stored-whole e = rw (eq-eqb w 8 e)
+
+    pub stored-half : (w ≡ 8 → ⊥) → storedOf s w o v ≡ halfWritten s (halfAt o) (wholeAt o) v
+    unfolding storedOf
+    stored-half n = rw (ne-eqb w 8 n)
 
     pub write-refused : wellFormed s ≡ false → writeOf s w o v ≡ refused s refusal.State
     unfolding writeOf

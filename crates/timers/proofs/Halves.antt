@@ -14,7 +14,8 @@ use Rattle.timers.specs.declared.Timers.{Timers}
 use Rattle.timers.specs.State.{at, withTimer}
 use Rattle.timers.specs.Registers.{aligned, numbered, ofTimer, isComparator, registerOf, writtenOf, halfAt, wholeAt, placeOf, halfWritten}
 use Rattle.timers.specs.Call.{turn, readingOf, writingOf}
-use Rattle.timers.proofs.Access.{reading-done, shown-half, writing-half, half-comparator, half-filled}
+use Rattle.timers.proofs.Access.{reading-done, shown-half, writing-done, stored-half, half-comparator, half-filled}
+use Rattle.timers.proofs.Stored.{at-comparator}
 
 -- ---- where the halves of a register lie
 
@@ -56,8 +57,8 @@ module _ (h : Half) (o : ℕ) (a : o % 8 ≡ 0) where
 
     pub half-writes : (v : ℕ) → v < 2 ^ 32 → writingOf s 4 (placeOf h o) v ≡ turn (halfWritten s h o v) answer.Done
     half-writes v g =
-        writing-half s 4 (placeOf h o) v (λ q. omega arith) place-aligned (place-inside l) g
-        ∙ (λ i. turn (halfWritten s (half-at i) (whole-at i) v) answer.Done)
+        writing-done s 4 (placeOf h o) v place-aligned (place-inside l) (lt-ltb v (2 ^ 32) g)
+        ∙ ap (λ (r : Timers). turn r answer.Done) (stored-half s 4 (placeOf h o) v (λ q. omega arith) ∙ (λ i. halfWritten s (half-at i) (whole-at i) v))
 
 -- ---- which register it is
 
@@ -81,10 +82,7 @@ module _ (s : Timers) (h : Half) (v : ℕ) where
 
   -- "For a comparator, the half is replaced in whatever the whole write would set"
   pub half-compares : (n : ℕ) → n < 3 → halfWritten s h (0x108 + 0x20 * n) v ≡ withTimer s n (halfComparedOf (at s n) h v)
-  half-compares n l = half-comparator s h (0x108 + 0x20 * n) v is ∙ ap (λ (m : ℕ). withTimer s m (halfComparedOf (at s m) h v)) here
+  half-compares n l = half-comparator s h (0x108 + 0x20 * n) v (at-comparator n l) ∙ ap (λ (m : ℕ). withTimer s m (halfComparedOf (at s m) h v)) here
     where
       here : numbered (0x108 + 0x20 * n) ≡ n
       here = omega arith
-
-      is : (ofTimer (0x108 + 0x20 * n) && isComparator (0x108 + 0x20 * n)) ≡ true
-      is = rw (le-leb 0x100 (0x108 + 0x20 * n) (omega arith), lt-ltb (0x108 + 0x20 * n) 0x160 (omega arith), eq-eqb ((0x108 + 0x20 * n) % 0x20) 8 (omega arith))

@@ -1,10 +1,12 @@
 // The window four bytes at a time: a half of a register by the rule for the whole one.
 ghost use mathlib.Core.Path.{_≡_};
 ghost use Prim.Native.Nat.{_≤_};
-ghost use mathlib.Core.Bool.{_&&_};
+ghost use mathlib.Core.Bool.{true, cond, _&&_};
+ghost use lib.Dec.{eqb};
 ghost use Rattle.timer.specs.Registers.{halfComparedOf};
 ghost use Rattle.timers.specs.State.{at, withTimer};
-ghost use Rattle.timers.specs.Registers.{numbered, ofTimer, isComparator, halfAt, wholeAt, filled, halfWritten, shownOf};
+ghost use Rattle.timers.specs.Registers.{aligned, fits, numbered, ofTimer, isComparator, halfAt, wholeAt, shownOf, storedOf};
+ghost use Rattle.timers.specs.Inner.{besideOf, filledBy};
 use crate::Timers;
 use crate::put_half;
 use timer::Half;
@@ -27,33 +29,63 @@ impl Timers {
         offset - offset % Timers::WIDTH
     }
 
-    // What an access reads.
+    // What an access that is allowed reads.
     pub(crate) fn shown(self, width: u64, offset: u64) -> u64
+        requires { ⌜ aligned width offset ≡ true ⌝ }
         ensures { λ r. ⌜ r ≡ shownOf self width offset ⌝ }
     {
-        if width == Timers::WIDTH {
-            return self.register(offset);
-        }
         let whole = self.register(Timers::whole_at(offset));
+        if width == Timers::WIDTH {
+            return whole;
+        }
         Timers::half_at(offset).of(whole)
     }
 
-    // The number that a half write is to a whole register.
+    // What stands beside a half that is written: at the counter and the configurations what they read. No comparator comes here, and what
+    // ignores writes may show anything. (`register` would do; but called from here too it is no longer a part of the reads, which makes them slower.)
+    fn beside(self, offset: u64) -> u64
+        ensures { λ r. ⌜ r ≡ besideOf self offset ⌝ }
+    {
+        if offset == Timers::COUNTER {
+            return self.counter;
+        }
+        if offset == Timers::CONFIGURATION {
+            return (self.enabled == 1) as u64;
+        }
+        if offset < Timers::TIMERS {
+            return 0;
+        }
+        let m = ((offset - Timers::TIMERS) / Timers::STEP) as usize;
+        self.at(m).configuration()
+    }
+
+    // The number that a half write gives to the rule for the whole register.
     fn filled(self, half: Half, offset: u64, value: u32) -> u64
-        ensures { λ r. ⌜ r ≡ filled self half offset value ⌝ }
+        ensures { λ r. ⌜ r ≡ filledBy self half offset value ⌝ }
     {
         if offset == Timers::STATUS {
             return half.replaced(0, value);
         }
-        half.replaced(self.register(offset), value)
+        half.replaced(self.beside(offset), value)
+    }
+
+    // The number that a write of either width gives to it.
+    fn given(self, width: u64, half: Half, offset: u64, value: u64) -> u64
+        requires { ⌜ fits width value ≡ true ⌝ }
+        ensures { λ r. ⌜ r ≡ cond (eqb width 8) value (filledBy self half offset value) ⌝ }
+    {
+        if width == Timers::WIDTH {
+            return value;
+        }
+        self.filled(half, offset, value as u32)
     }
 
     // The offset is that of a timer's comparator.
     fn is_comparator(offset: u64) -> bool
         ensures { λ r. ⌜ r ≡ (ofTimer offset && isComparator offset) ⌝ }
     {
-        (((Timers::TIMERS <= offset) & (offset < Timers::TIMERS_END))
-            & (offset % Timers::STEP == Timers::COMPARATOR))
+        ((Timers::TIMERS <= offset) & (offset < Timers::TIMERS_END))
+            & (offset % Timers::STEP == Timers::COMPARATOR)
     }
 
     // A write to a half of a timer's comparator. Each timer is asked, as for the whole.
@@ -76,20 +108,17 @@ impl Timers {
         }
     }
 
-    // A write to a half of the register at an offset.
-    fn half_written(self, half: Half, offset: u64, value: u32) -> Timers
-        ensures { λ r. ⌜ r ≡ halfWritten self half offset value ⌝ }
+    // A write that is allowed. `written` stands here once for both widths, so that it stays a part of the call.
+    pub(crate) fn stored(self, width: u64, offset: u64, value: u64) -> Timers
+        requires { ⌜ aligned width offset ≡ true ⌝ }
+        requires { ⌜ fits width value ≡ true ⌝ }
+        ensures { λ r. ⌜ r ≡ storedOf self width offset value ⌝ }
     {
-        if Timers::is_comparator(offset) {
-            return self.half_compared(half, offset, value);
+        let half = Timers::half_at(offset);
+        let whole = Timers::whole_at(offset);
+        if (width != Timers::WIDTH) & Timers::is_comparator(whole) {
+            return self.half_compared(half, whole, value as u32);
         }
-        self.written(offset, self.filled(half, offset, value))
-    }
-
-    // A 4-byte write.
-    pub(crate) fn half_stored(self, offset: u64, value: u32) -> Timers
-        ensures { λ r. ⌜ r ≡ halfWritten self (halfAt offset) (wholeAt offset) value ⌝ }
-    {
-        self.half_written(Timers::half_at(offset), Timers::whole_at(offset), value)
+        self.written(whole, self.given(width, half, whole, value))
     }
 }

@@ -4,7 +4,7 @@ ghost use Prim.Native.Nat.{_≤_};
 ghost use mathlib.Core.Bool.{cond};
 ghost use Rattle.timer.specs.Registers.{bit};
 ghost use Rattle.timers.specs.State.{isEnabled, withCounter, withEnabled, withTimers};
-ghost use Rattle.timers.specs.Registers.{aligned, clearedBy, statusOf, registerOf, timerWritten, writtenOf};
+ghost use Rattle.timers.specs.Registers.{aligned, fits, clearedBy, statusOf, registerOf, timerWritten, writtenOf};
 ghost use Rattle.timers.specs.Call.{refused, readingOf, writingOf, readOf, writeOf, advanceOf};
 use crate::Timers;
 use crate::Turn;
@@ -158,6 +158,13 @@ impl Timers {
         (width == Timers::HALF_WIDTH) & (offset % Timers::HALF_WIDTH == 0)
     }
 
+    // A 4-byte write's value is below 2^32.
+    fn fits(width: u64, value: u64) -> bool
+        ensures { λ r. ⌜ r ≡ fits width value ⌝ }
+    {
+        (width == Timers::WIDTH) | (value < Timers::VALUE_END)
+    }
+
     pub fn reading(self, width: u64, offset: u64) -> Turn
         ensures { λ r. ⌜ r ≡ readingOf self width offset ⌝ }
     {
@@ -182,17 +189,11 @@ impl Timers {
         if Timers::END <= offset {
             return self.refused(Refusal::Offset);
         }
-        if width == Timers::WIDTH {
-            return Turn {
-                timers: self.written(offset, value),
-                answer: Answer::Done,
-            };
-        }
-        if Timers::VALUE_END <= value {
+        if !Timers::fits(width, value) {
             return self.refused(Refusal::Value);
         }
         Turn {
-            timers: self.half_stored(offset, value as u32),
+            timers: self.stored(width, offset, value),
             answer: Answer::Done,
         }
     }

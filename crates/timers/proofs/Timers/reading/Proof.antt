@@ -30,7 +30,8 @@ returns-2 c = let e = c .before .before in
     c .refused2 .ensures ∙ sym (reading-offset _ _ _ (sym (e .before .aligned .ensures) ∙ not-false _ (e .if1 .left)) (c .before .if2 .taken))
 
 shown-requires : tie.Need-shown-requires
-shown-requires c κs = search needs
+shown-requires c κs = let e = c .before in
+    sym (e .before .aligned .ensures) ∙ not-false _ (e .if1 .left)
 
 returns-3 : tie.Need-returns-3
 returns-3 c = let e = c .before .before in

@@ -1,7 +1,8 @@
 use mathlib.Core.Path.{sym, ap, ap₂, _∙_}
 use Rattle.timer.specs.Halves.{halfOf}
 use Rattle.timers.specs.Registers.{registerOf}
-use Rattle.timers.proofs.Access.{shown-whole, shown-half}
+use Rattle.timers.proofs.Access.{shown-half}
+use Rattle.timers.proofs.Stored.{shown-here}
 use borrow.Author.Needs.{needs}
 use Rattle.timers.proofs.Timers.shown.Statement.{statement}
 use Rattle.timers.proofs.Timers.shown.Tie as tie
@@ -12,17 +13,17 @@ use Rattle.timers.proofs.Timers.half_at.Reads as half-at-reads
 use Rattle.timers.proofs.Timers.register.Reads as register-reads
 use Rattle.timers.proofs.Timers.whole_at.Reads as whole-at-reads
 
+whole-at-requires : tie.Need-whole-at-requires
+whole-at-requires c κs = search needs
+
 register-requires : tie.Need-register-requires
 register-requires c κs = search needs
 
 returns : tie.Need-returns
-returns c = c .register .ensures ∙ sym (shown-whole _ _ _ (c .before .if1 .taken))
-
-whole-at-requires : tie.Need-whole-at-requires
-whole-at-requires c κs = search needs
-
-register-requires-2 : tie.Need-register-requires-2
-register-requires-2 c κs = search needs
+returns c = let c1 = c .before in
+    let c0 = c1 .before in
+    let s = c0 .before in
+    c1 .register .ensures ∙ ap (registerOf (s .args .self)) (c0 .whole-at .ensures) ∙ shown-here _ _ _ (s .pre) (c .if1 .taken)
 
 half-at-requires : tie.Need-half-at-requires
 half-at-requires c κs = search needs
@@ -32,21 +33,14 @@ of-requires c κs = search needs
 
 returns-2 : tie.Need-returns-2
 returns-2 c = let c2 = c .before in
-    let c1 = c2 .before in
+    let e = c2 .before in
+    let c1 = e .before in
     let c0 = c1 .before in
-    let s = c0 .before .before .args .self in
     c .of .ensures
-    ∙ ap₂ halfOf (c2 .half-at .ensures) (c1 .register2 .ensures ∙ ap (registerOf s) (c0 .whole-at .ensures))
-    ∙ sym (shown-half _ _ _ (c0 .before .if1 .left))
+    ∙ ap₂ halfOf (c2 .half-at .ensures) (c1 .register .ensures ∙ ap (registerOf (c0 .before .args .self)) (c0 .whole-at .ensures))
+    ∙ sym (shown-half _ _ _ (e .if1 .left))
 
 pub shown-spec : {M : Type 1} → statement M
 shown-spec =
     tie.close
-    (tie.spec
-    register-requires
-    returns
-    whole-at-requires
-    register-requires-2
-    half-at-requires
-    of-requires
-    returns-2)
+    (tie.spec whole-at-requires register-requires returns half-at-requires of-requires returns-2)

@@ -3,7 +3,7 @@ use borrow.Author.Tests.{not-true, not-false}
 use Rattle.answers.specs.declared.Answer.the-variants as answer
 use Rattle.timers.specs.declared.Timers.{Timers}
 use Rattle.timers.specs.Call.{turn}
-use Rattle.timers.proofs.Access.{writing-width, writing-offset, writing-whole, writing-value, writing-half}
+use Rattle.timers.proofs.Access.{writing-width, writing-offset, writing-value, writing-done}
 use borrow.Author.Needs.{needs}
 use Rattle.timers.proofs.Timers.writing.Statement.{statement}
 use Rattle.timers.proofs.Timers.writing.Tie as tie
@@ -11,8 +11,8 @@ use Rattle.timers.proofs.Timers.writing.Reads as reads
 use Rattle.timers.proofs.Timers.writing.Lts as lts
 use Rattle.timers.proofs.Timers.aligned.Reads as aligned-reads
 use Rattle.timers.proofs.Timers.refused.Reads as refused-reads
-use Rattle.timers.proofs.Timers.written.Reads as written-reads
-use Rattle.timers.proofs.Timers.half_stored.Reads as half-stored-reads
+use Rattle.timers.proofs.Timers.fits.Reads as fits-reads
+use Rattle.timers.proofs.Timers.stored.Reads as stored-reads
 
 aligned-requires : tie.Need-aligned-requires
 aligned-requires c κs = search needs
@@ -30,38 +30,31 @@ returns-2 : tie.Need-returns-2
 returns-2 c = let e = c .before .before in
     c .refused2 .ensures ∙ sym (writing-offset _ _ _ _ (sym (e .before .aligned .ensures) ∙ not-false _ (e .if1 .left)) (c .before .if2 .taken))
 
-written-requires : tie.Need-written-requires
-written-requires c κs = search needs
-
-returns-3 : tie.Need-returns-3
-returns-3 c = let e2 = c .before .before in
-    let e1 = e2 .before in
-    ap (λ (x : Timers). turn x answer.Done) (c .written .ensures)
-    ∙ sym (writing-whole _ _ _ _ (sym (e1 .before .aligned .ensures) ∙ not-false _ (e1 .if1 .left)) (e2 .if2 .left) (c .before .if3 .taken))
+fits-requires : tie.Need-fits-requires
+fits-requires c κs = search needs
 
 refused-requires-3 : tie.Need-refused-requires-3
 refused-requires-3 c κs = search needs
 
-returns-4 : tie.Need-returns-4
-returns-4 c = let e3 = c .before .before in
-    let e2 = e3 .before in
+returns-3 : tie.Need-returns-3
+returns-3 c = let f = c .before .before in
+    let e2 = f .before in
     let e1 = e2 .before in
     c .refused3 .ensures
-    ∙ sym (writing-value _ _ _ _ (e3 .if3 .left) (sym (e1 .before .aligned .ensures) ∙ not-false _ (e1 .if1 .left)) (e2 .if2 .left) (c .before .if4 .taken))
+    ∙ sym (writing-value _ _ _ _ (sym (e1 .before .aligned .ensures) ∙ not-false _ (e1 .if1 .left)) (e2 .if2 .left) (sym (f .fits2 .ensures) ∙ not-true _ (c .before .if3 .taken)))
 
-cast-half-stored : tie.Need-cast-half-stored
-cast-half-stored c = search needs
+stored-requires : tie.Need-stored-requires
+stored-requires c κs = let f = c .before in
+    let e1 = f .before .before in
+    (sym (e1 .before .aligned .ensures) ∙ not-false _ (e1 .if1 .left), sym (f .fits2 .ensures) ∙ not-false _ (c .if3 .left))
 
-half-stored-requires : tie.Need-half-stored-requires
-half-stored-requires c κs = search needs
-
-returns-5 : tie.Need-returns-5
-returns-5 c = let e4 = c .before in
-    let e3 = e4 .before in
-    let e2 = e3 .before in
+returns-4 : tie.Need-returns-4
+returns-4 c = let e3 = c .before in
+    let f = e3 .before in
+    let e2 = f .before in
     let e1 = e2 .before in
-    ap (λ (x : Timers). turn x answer.Done) (c .half-stored .ensures)
-    ∙ sym (writing-half _ _ _ _ (e3 .if3 .left) (sym (e1 .before .aligned .ensures) ∙ not-false _ (e1 .if1 .left)) (e2 .if2 .left) (e4 .if4 .left))
+    ap (λ (x : Timers). turn x answer.Done) (c .stored .ensures)
+    ∙ sym (writing-done _ _ _ _ (sym (e1 .before .aligned .ensures) ∙ not-false _ (e1 .if1 .left)) (e2 .if2 .left) (sym (f .fits2 .ensures) ∙ not-false _ (e3 .if3 .left)))
 
 pub writing-spec : {M : Type 1} → statement M
 writing-spec =
@@ -72,10 +65,8 @@ writing-spec =
     returns
     refused-requires-2
     returns-2
-    written-requires
-    returns-3
+    fits-requires
     refused-requires-3
-    returns-4
-    cast-half-stored
-    half-stored-requires
-    returns-5)
+    returns-3
+    stored-requires
+    returns-4)
