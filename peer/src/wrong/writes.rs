@@ -93,12 +93,12 @@ impl Wrong {
                 true
             }
             Mistake::StatusZeroClears if offset == STATUS => {
-                self.board.timers.write(STATUS, !value);
+                self.board.timers.write(8, STATUS, !value);
                 self.board.settle();
                 true
             }
             Mistake::GlitchingWrite if configuration => {
-                self.board.timers.write(offset, value & !bits::INTERRUPT);
+                self.board.timers.write(8, offset, value & !bits::INTERRUPT);
                 self.board.settle();
                 false
             }
@@ -136,7 +136,7 @@ impl Wrong {
         let enabled = self.board.timers.enabled;
         match self.mistake {
             Mistake::DisableClears if !enabled => {
-                self.board.timers.write(STATUS, 7);
+                self.board.timers.write(8, STATUS, 7);
                 self.board.settle();
             }
             Mistake::EnableResetsCounter if enabled && !before.timers.enabled => {

@@ -3,6 +3,7 @@
 
 use peer::board::{Board, Calls, CONTROLLER, TIMER_BLOCK};
 use peer::controller::{DATA, INDEX};
+use peer::timer::bits;
 use peer::timers::{comparator_of, configuration_of, COUNTER, ENABLE, STATUS};
 
 pub struct Desk(pub Board);
@@ -55,6 +56,16 @@ impl Desk {
         self.0.write(TIMER_BLOCK, 8, offset, value).unwrap();
     }
 
+    /// A 4-byte read.
+    pub fn get_half(&mut self, offset: u64) -> u64 {
+        self.0.read(TIMER_BLOCK, 4, offset).unwrap()
+    }
+
+    /// A 4-byte write.
+    pub fn set_half(&mut self, offset: u64, value: u64) {
+        self.0.write(TIMER_BLOCK, 4, offset, value).unwrap();
+    }
+
     pub fn enable(&mut self) {
         self.set(ENABLE, 1);
     }
@@ -93,6 +104,22 @@ impl Desk {
 
     pub fn clear(&mut self, bits: u64) {
         self.set(STATUS, bits);
+    }
+
+    /// Timer 0 with this configuration, comparator and period; bit 6 as in the configuration.
+    pub fn with_numbers(configuration: u64, comparator: u64, period: u64) -> Desk {
+        let mut desk = Desk::new();
+        desk.configure(0, configuration & bits::NARROW | bits::PERIODIC | bits::SET_COMPARATOR);
+        desk.set_comparator(0, comparator);
+        desk.set_comparator(0, period);
+        desk.configure(0, configuration);
+        desk
+    }
+
+    /// Comparator, period and bit 6 of timer 0.
+    pub fn numbers(&self) -> (u64, u64, bool) {
+        let timer = &self.0.timers.timer[0];
+        (timer.comparator, timer.period, timer.set_comparator)
     }
 
     pub fn advance(&mut self, ticks: u32) -> [u32; 3] {
