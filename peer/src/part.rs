@@ -84,3 +84,22 @@ impl Part {
         number & !self.mask() | value << self.shift() & self.mask()
     }
 }
+
+/// A write to a part of a register.
+pub struct PartWrite {
+    /// The register's offset.
+    pub register: u64,
+    /// What is written of it.
+    pub part: Part,
+    /// The number that is written there.
+    pub value: u64,
+    /// What the register reads now, with the part replaced.
+    pub replaced: u64,
+}
+
+impl PartWrite {
+    /// The value with the missing half as zeros.
+    pub fn alone(&self) -> u64 {
+        self.part.replace(0, self.value)
+    }
+}

@@ -1,6 +1,6 @@
 //! The timer block: three timers, the main counter, and their registers.
 
-use crate::part::{register_at, Part};
+use crate::part::{register_at, Part, PartWrite};
 use crate::timer::Timer;
 
 /// Number of timers.
@@ -79,6 +79,11 @@ impl Timers {
         offset < WINDOW_END
     }
 
+    /// Whether the paper lists a register at this multiple of 8.
+    pub fn is_listed(register: u64) -> bool {
+        !matches!(Register::at(register), Register::Unlisted)
+    }
+
     /// Whether the window allows this width at this offset.
     pub fn allows(width: u64, offset: u64) -> bool {
         matches!(width, 4 | 8) && offset.is_multiple_of(width)
@@ -107,21 +112,26 @@ impl Timers {
         (0..TIMERS).map(|n| u64::from(self.timer[n].status) << n).sum()
     }
 
+    /// What a write of an allowed width at an offset that exists is about.
+    pub fn part_write(&self, width: u64, offset: u64, value: u64) -> PartWrite {
+        let (register, part) = (register_at(offset), Part::reached_by(width, offset));
+        let replaced = part.replace(self.read_register(register), value);
+        PartWrite { register, part, value, replaced }
+    }
+
     /// A write of an allowed width at an offset that exists, with a value that fits the width.
     ///
     /// A half write replaces that half of what the register reads now and goes on as a write of
     /// the whole, with two exceptions: a status write takes the missing half as zeros, and a
     /// comparator write replaces the half in the numbers that it sets.
     pub fn write(&mut self, width: u64, offset: u64, value: u64) {
-        let register = register_at(offset);
-        let part = Part::reached_by(width, offset);
-        let replaced = part.replace(self.read_register(register), value);
-        match Register::at(register) {
-            Register::Enable => self.enabled = replaced & 1 != 0,
-            Register::Status => self.clear_status(part.replace(0, value)),
-            Register::Counter if !self.enabled => self.counter = replaced,
-            Register::Configuration(n) => self.timer[n].write_configuration(replaced),
-            Register::Comparator(n) => self.timer[n].write_comparator(part, value),
+        let write = self.part_write(width, offset, value);
+        match Register::at(write.register) {
+            Register::Enable => self.enabled = write.replaced & 1 != 0,
+            Register::Status => self.clear_status(write.alone()),
+            Register::Counter if !self.enabled => self.counter = write.replaced,
+            Register::Configuration(n) => self.timer[n].write_configuration(write.replaced),
+            Register::Comparator(n) => self.timer[n].write_comparator(write.part, value),
             Register::Capability | Register::Counter | Register::Unlisted => {}
         }
     }
