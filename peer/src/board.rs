@@ -184,7 +184,7 @@ fn refuse_unless(condition: bool, refusal: Refusal) -> Result<(), Refusal> {
 
 /// The tests of an access after refusal 5, in the paper's order: 1 for the window, 2, 1 for the
 /// offset. The windows differ in all three.
-fn check_access(window: u64, width: u64, offset: u64) -> Result<(), Refusal> {
+pub(crate) fn check_access(window: u64, width: u64, offset: u64) -> Result<(), Refusal> {
     let (is_allowed, exists) = match window {
         CONTROLLER => (width == 4, Controller::has_offset(offset)),
         TIMER_BLOCK => (Timers::allows(width, offset), Timers::has_offset(offset)),
@@ -195,7 +195,7 @@ fn check_access(window: u64, width: u64, offset: u64) -> Result<(), Refusal> {
 }
 
 /// The last test of a write, wherever it goes.
-fn check_value(width: u64, value: u64) -> Result<(), Refusal> {
+pub(crate) fn check_value(width: u64, value: u64) -> Result<(), Refusal> {
     refuse_unless(width != 4 || value <= u64::from(u32::MAX), Refusal::Value)
 }
 

@@ -69,7 +69,7 @@ impl Timer {
         }
     }
 
-    fn reduce(&self, value: u64) -> u64 {
+    pub(crate) fn reduce(&self, value: u64) -> u64 {
         (u128::from(value) % self.turn()) as u64
     }
 
