@@ -15,6 +15,7 @@ use Rattle.timers.specs.Registers.{aligned, fits, numbered, ofTimer, isC
 use Rattle.timers.specs.Inner.{besideOf, filledBy}
 use Rattle.timers.proofs.Access.{aligned-whole, read-enabled, read-counter, shown-whole, stored-whole, stored-half, half-comparator, half-filled}
 use Rattle.timers.proofs.Places.{Place, capabilities, enable, status, counter, configuration, comparator, unlisted, place, configuration-read, unlisted-write, capabilities-write}
+
 -- at width 8 the register stands at the offset
 whole-here : (w o : ℕ) → aligned w o ≡ true → w ≡ 8 → wholeAt o ≡ o
 whole-here w o a e = let z : o % 8 ≡ 0 = eqb-true (o % 8) 0 (sym (aligned-whole w o e) ∙ a) in omega arith

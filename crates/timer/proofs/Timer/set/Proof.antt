@@ -19,7 +19,8 @@ reduced-requires-2 c κs = search needs
 
 returns : tie.Need-returns
 returns c = let e = c .before .before in
-    sets-periodic _ _ _ _ _ _ (eq-eqb _ _ (e .before .before .if1 .taken)) (e .before .before .before .before .reduced .ensures) (c .reduced2 .ensures) (e .choose .ensures)
+    let a = e .before .before .before .before .before .before .args in
+    sets-periodic (a .self) (a .comparator) (a .period) _ _ _ (eq-eqb _ _ (e .before .before .if1 .taken)) (e .before .before .before .before .reduced .ensures) (c .reduced2 .ensures) (e .choose .ensures)
 
 returns-2 : tie.Need-returns-2
 returns-2 c = sets-once _ _ _ _ (ne-eqb _ _ (c .if1 .left)) (c .before .before .reduced .ensures)
