@@ -14,15 +14,14 @@ use Rattle.pins.proofs.Bools.{byte-lt}
 use Rattle.answers.specs.declared.Refusal.the-variants as refusal
 use Rattle.answers.specs.declared.Answer.the-variants as answer
 use Rattle.timer.specs.declared.Timer.{Timer}
-use Rattle.timer.specs.declared.Half.{Half}
 use Rattle.timer.specs.State.{flag}
 use Rattle.timer.specs.Halves.{halfOf}
-use Rattle.timer.specs.Registers.{bit, placed, configuredOf, comparedOf, halfComparedOf, clearedOf}
+use Rattle.timer.specs.Registers.{bit, placed, configuredOf, comparedOf, clearedOf}
 use Rattle.timers.specs.declared.Timers.{Timers}
 use Rattle.timers.specs.State.{at, isEnabled, withCounter, withEnabled, withList, withTimers, withTimer}
 use Rattle.timers.specs.Formed.{wellFormed}
 use Rattle.timers.specs.Registers.{aligned, numbered, statusOf, timerRegister, registerOf, clearedBy, timerWritten, writtenOf}
-use Rattle.timers.specs.Registers.{fits, ofTimer, isComparator, halfAt, wholeAt, filled, halfWritten, shownOf, storedOf}
+use Rattle.timers.specs.Registers.{fits, halfAt, wholeAt, halfWritten, shownOf, storedOf}
 use Rattle.timers.specs.Inner.{timerPut}
 use Rattle.timers.proofs.Three.{three-same, eta}
 use Rattle.timers.specs.Call.{turn, refused, readingOf, writingOf, readOf, writeOf}
@@ -235,18 +234,8 @@ module _ (s : Timers) (o v : ℕ) where
       x2 ≡ timerPut (at s 2) (eqb n 2) (o % 0x20) v → withList s (x0 ∷ x1 ∷ x2 ∷ []) ≡ timerWritten s o v
   written-code l x0 x1 x2 e0 e1 e2 = (λ i. withList s (e0 i ∷ e1 i ∷ e2 i ∷ [])) ∙ written-each l
 
--- ---- a write to a half
+-- ---- a write to a half of a timer's comparator: each timer is asked, as for the whole
 
-module _ (s : Timers) (h : Half) (o v : ℕ) where
-  pub half-comparator : (ofTimer o && isComparator o) ≡ true → halfWritten s h o v ≡ withTimer s (numbered o) (halfComparedOf (at s (numbered o)) h v)
-  unfolding halfWritten
-  half-comparator e = rw e
-
-  pub half-filled : (ofTimer o && isComparator o) ≡ false → halfWritten s h o v ≡ writtenOf s o (filled s h o v)
-  unfolding halfWritten
-  half-filled e = rw e
-
--- a timer's comparator, as the code asks each timer
 pub half-code :
     (s : Timers) (o : ℕ) (f : Timer → Timer) (x0 x1 x2 : Timer) → x0 ≡ cond (eqb (numbered o) 0) (f (at s 0)) (at s 0) →
     x1 ≡ cond (eqb (numbered o) 1) (f (at s 1)) (at s 1) → x2 ≡ cond (eqb (numbered o) 2) (f (at s 2)) (at s 2) →

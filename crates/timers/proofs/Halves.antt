@@ -14,8 +14,8 @@ use Rattle.timers.specs.declared.Timers.{Timers}
 use Rattle.timers.specs.State.{at, withTimer}
 use Rattle.timers.specs.Registers.{aligned, numbered, ofTimer, isComparator, registerOf, writtenOf, halfAt, wholeAt, placeOf, halfWritten}
 use Rattle.timers.specs.Call.{turn, readingOf, writingOf}
-use Rattle.timers.proofs.Access.{reading-done, shown-half, writing-done, stored-half, half-comparator, half-filled}
-use Rattle.timers.proofs.Stored.{at-comparator}
+use Rattle.timers.proofs.Access.{reading-done, shown-half, writing-done, stored-half}
+use Rattle.timers.proofs.Stored.{at-comparator, half-comparator, half-filled}
 
 -- ---- where the halves of a register lie
 

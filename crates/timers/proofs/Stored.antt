@@ -11,9 +11,9 @@ use Rattle.timer.specs.Halves.{replaced}
 use Rattle.timer.specs.Registers.{configurationOf, halfComparedOf}
 use Rattle.timers.specs.declared.Timers.{Timers}
 use Rattle.timers.specs.State.{at, withTimer}
-use Rattle.timers.specs.Registers.{aligned, fits, numbered, ofTimer, isComparator, registerOf, writtenOf, halfAt, wholeAt, filled, shownOf, storedOf}
+use Rattle.timers.specs.Registers.{aligned, fits, numbered, ofTimer, isComparator, registerOf, writtenOf, halfAt, wholeAt, filled, halfWritten, shownOf, storedOf}
 use Rattle.timers.specs.Inner.{besideOf, filledBy}
-use Rattle.timers.proofs.Access.{aligned-whole, read-enabled, read-counter, shown-whole, stored-whole, stored-half, half-comparator, half-filled}
+use Rattle.timers.proofs.Access.{aligned-whole, read-enabled, read-counter, shown-whole, stored-whole, stored-half}
 use Rattle.timers.proofs.Places.{Place, capabilities, enable, status, counter, configuration, comparator, unlisted, place, configuration-read, unlisted-write, capabilities-write}
 
 -- at width 8 the register stands at the offset
@@ -37,6 +37,17 @@ comparator-from o e = leb-true 0x100 o (and-left (leb 0x100 o) (ltb o 0x160) (an
 
 pub at-comparator : (n : ℕ) → n < 3 → (ofTimer (0x108 + 0x20 * n) && isComparator (0x108 + 0x20 * n)) ≡ true
 at-comparator n l = rw (le-leb 0x100 (0x108 + 0x20 * n) (omega arith), lt-ltb (0x108 + 0x20 * n) 0x160 (omega arith), eq-eqb ((0x108 + 0x20 * n) % 0x20) 8 (omega arith))
+
+-- ---- a half of a comparator, and of another register
+
+module _ (s : Timers) (h : Half) (o v : ℕ) where
+  pub half-comparator : (ofTimer o && isComparator o) ≡ true → halfWritten s h o v ≡ withTimer s (numbered o) (halfComparedOf (at s (numbered o)) h v)
+  unfolding halfWritten
+  half-comparator e = rw e
+
+  pub half-filled : (ofTimer o && isComparator o) ≡ false → halfWritten s h o v ≡ writtenOf s o (filled s h o v)
+  unfolding halfWritten
+  half-filled e = rw e
 
 -- ---- what stands beside a half, as the code looks for it
 

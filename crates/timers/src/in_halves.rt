@@ -41,8 +41,9 @@ impl Timers {
         Timers::half_at(offset).of(whole)
     }
 
-    // What stands beside a half that is written: at the counter and the configurations what they read. No comparator comes here, and what
-    // ignores writes may show anything. (`register` would do; but called from here too it is no longer a part of the reads, which makes them slower.)
+    // What stands beside a half that is written: at the counter and the configurations what they read. No comparator
+    // comes here, and what ignores writes may show anything. `register` would do, but once it is called from here too,
+    // the compiler no longer works it into the reads, and these are slower.
     fn beside(self, offset: u64) -> u64
         ensures { λ r. ⌜ r ≡ besideOf self offset ⌝ }
     {
