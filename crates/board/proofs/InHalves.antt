@@ -142,7 +142,7 @@ module _ (b : Board) (z : Formed b) (h : Half) (v : ℕ) (g : v < 2 ^ 64) where
 
 module _ (b : Board) (z : Formed b) (v n k : ℕ) (g : v < 2 ^ 64) (l : n < 3) (e : register b (Accesses.configuration n) ≡ value k) (w : k / 2 ^ 8 % 2 ≡ 1) where
   narrow-here : at (b .timers) n .narrow ≡ 1
-  narrow-here = narrow b z 0 n k (omega arith) l e w
+  narrow-here = narrow b z n k l e w
 
   -- low then high is the whole write, with bit 6 too
   pub narrow-low-first : run b (inTwo half.Low (Accesses.comparator n) v) ≡ run b (set (Accesses.comparator n) v ∷ [])
@@ -185,7 +185,7 @@ module _ (b : Board) (z : Formed b) (h : Half) (o : ℕ) (a : o % 8 ≡ 0) (l : 
       other-place = in-two-low b z h v g three o a l
 
       zero-set : (n : ℕ) → n < 3 → o ≡ Accesses.comparator n → at (b .timers) n .«set_comparator» ≡ 0
-      zero-set n m e = sym (bits b z half.Low 0 n k (omega arith) m reads .set) ∙ unset n k m e reads
+      zero-set n m e = sym (bits b z n k m reads .set) ∙ unset n k m e reads
         where
           k : ℕ
           k = registerOf (b .timers) (Accesses.configuration n)

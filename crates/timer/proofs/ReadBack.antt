@@ -34,7 +34,7 @@ both zero b h l = sym (zero-mul b)
 both (suc zero) b h l = flag-is b l ∙ sym (one-mul b)
 both (suc (suc a)) b h l = absurd (omega arith)
 
-reduced-is : (b : Bool) (x : ℕ) → reduced b x ≡ cond b (x % 2 ^ 32) x
+pub reduced-is : (b : Bool) (x : ℕ) → reduced b x ≡ cond b (x % 2 ^ 32) x
 reduced-is true x = refl
 reduced-is false x = refl
 
@@ -95,7 +95,7 @@ module _ (t : Timer) (z : Formed t) where
     taken : reduced (narrowed t) c ≡ cond (eqb (configurationOf t / 2 ^ 8 % 2) 1) (c % 2 ^ 32) c
     taken = reduced-is (narrowed t) c ∙ ap (λ (x : ℕ). cond (eqb x 1) (c % 2 ^ 32) c) (sym (configuration-reads .narrow))
 
-    comparator-is : setOf t c p .comparator ≡ cond (flag (t .periodic)) (cond (flag (t .«set_comparator»)) (reduced (narrowed t) c) (t .comparator)) (reduced (narrowed t) c)
+    pub comparator-is : setOf t c p .comparator ≡ cond (flag (t .periodic)) (cond (flag (t .«set_comparator»)) (reduced (narrowed t) c) (t .comparator)) (reduced (narrowed t) c)
     unfolding setOf
     comparator-is = go (flag (t .periodic))
       where
@@ -106,6 +106,20 @@ module _ (t : Timer) (z : Formed t) where
         y = cond (flag (t .«set_comparator»)) x (t .comparator)
 
         go : (b : Bool) → cond b (withSet (withPeriod (withComparator t y) (reduced (narrowed t) p)) 0) (withComparator t x) .comparator ≡ cond b y x
+        go true = refl
+        go false = refl
+
+    pub period-is : setOf t c p .period ≡ cond (flag (t .periodic)) (reduced (narrowed t) p) (t .period)
+    unfolding setOf
+    period-is = go (flag (t .periodic))
+      where
+        x : ℕ
+        x = reduced (narrowed t) c
+
+        y : ℕ
+        y = reduced (narrowed t) p
+
+        go : (b : Bool) → cond b (withSet (withPeriod (withComparator t (cond (flag (t .«set_comparator»)) x (t .comparator))) y) 0) (withComparator t x) .period ≡ cond b y (t .period)
         go true = refl
         go false = refl
 
