@@ -86,16 +86,6 @@ module _ (t : Timer) (h : Half) (v : ℕ) where
   pub half-once : flag (t .periodic) ≡ false → halfComparedOf t h v ≡ comparedOf t (replaced h (t .comparator) v)
   half-once e = set-once t _ _ e ∙ sym (set-once t _ _ e)
 
-  -- periodic: that half of the period, and of the comparator too if bit 6 is 1; each keeps its own other half
-  pub half-periodic :
-      flag (t .periodic) ≡ true →
-      halfComparedOf t h v
-      ≡ withSet
-      (withPeriod (withComparator t (cond (flag (t .«set_comparator»)) (reduced (narrowed t) (replaced h (t .comparator) v)) (t .comparator)))
-      (reduced (narrowed t) (replaced h (t .period) v)))
-      0
-  half-periodic e = set-periodic t _ _ e
-
 -- ---- in 32-bit mode
 
 -- numbers that are the same once reduced are written the same

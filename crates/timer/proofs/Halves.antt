@@ -33,11 +33,6 @@ half-lt half.High x l = omega arith
 pub halves-whole : (x : ℕ) → halfOf half.High x * 2 ^ 32 + halfOf half.Low x ≡ x
 halves-whole x = omega arith
 
--- a half replaced by itself
-pub replaced-same : (h : Half) (x : ℕ) → replaced h x (halfOf h x) ≡ x
-replaced-same half.Low x = omega arith
-replaced-same half.High x = omega arith
-
 -- both halves replaced, whichever comes first
 pub replaced-both : (h : Half) (x v : ℕ) → replaced (other h) (replaced h x (halfOf h v)) (halfOf (other h) v) ≡ v
 replaced-both half.Low x v = omega arith
