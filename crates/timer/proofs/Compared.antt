@@ -13,7 +13,9 @@ use Rattle.timer.specs.State.{flag, reduced, narrowed, withComparator, w
 use Rattle.timer.specs.Formed.{Formed}
 use Rattle.timer.specs.Halves.{halfOf, replaced}
 use Rattle.timer.specs.Registers.{setOf, comparedOf, halfComparedOf}
+use Rattle.timer.proofs.Written.{sets-periodic, sets-once}
 use Rattle.timer.proofs.Halves.{other, replaced-both}
+use Rattle.timer.proofs.Rewritten.{only-where}
 
 -- ---- at both widths: in 32-bit mode numbers are reduced modulo 2^32
 
@@ -37,13 +39,11 @@ module _ (t : Timer) (c p : ℕ) where
   abbrev onceSet : Timer
   onceSet = withComparator t (reduced (narrowed t) c)
 
-  set-periodic : flag (t .periodic) ≡ true → setOf t c p ≡ periodicSet
-  unfolding setOf
-  set-periodic e = rw e
+  periodic-set : flag (t .periodic) ≡ true → setOf t c p ≡ periodicSet
+  periodic-set e = sym (sets-periodic t c p _ _ _ e refl refl refl)
 
-  set-once : flag (t .periodic) ≡ false → setOf t c p ≡ onceSet
-  unfolding setOf
-  set-once e = rw e
+  once-set : flag (t .periodic) ≡ false → setOf t c p ≡ onceSet
+  once-set e = sym (sets-once t c p _ e refl)
 
 module _ (t : Timer) (h : Half) (v : ℕ) where
   -- one half, and then the other
@@ -67,24 +67,24 @@ module _ (t : Timer) (h : Half) (v : ℕ) where
 
       go : (b : Bool) → flag (t .periodic) ≡ b → inHalves ≡ comparedOf (comparedOf t first) v
       go true e =
-          ap (λ (u : Timer). halfComparedOf u (other h) (halfOf (other h) v)) (set-periodic t first firstPeriod e)
-          ∙ set-periodic (periodicSet t first firstPeriod) _ (second firstPeriod) e
+          ap (λ (u : Timer). halfComparedOf u (other h) (halfOf (other h) v)) (periodic-set t first firstPeriod e)
+          ∙ periodic-set (periodicSet t first firstPeriod) _ (second firstPeriod) e
           ∙ ap (withPeriod (periodicSet t first first)) (reduced-both (narrowed t) h (t .period) v)
-          ∙ sym (set-periodic (periodicSet t first first) v v e)
-          ∙ sym (ap (λ (u : Timer). comparedOf u v) (set-periodic t first first e))
+          ∙ sym (periodic-set (periodicSet t first first) v v e)
+          ∙ sym (ap (λ (u : Timer). comparedOf u v) (periodic-set t first first e))
       go false e =
-          ap (λ (u : Timer). halfComparedOf u (other h) (halfOf (other h) v)) (set-once t first firstPeriod e)
-          ∙ set-once (onceSet t first firstPeriod) (second first) _ e
+          ap (λ (u : Timer). halfComparedOf u (other h) (halfOf (other h) v)) (once-set t first firstPeriod e)
+          ∙ once-set (onceSet t first firstPeriod) (second first) _ e
           ∙ ap (withComparator t) (reduced-both (narrowed t) h (t .comparator) v)
-          ∙ sym (set-once (onceSet t first first) v v e)
-          ∙ sym (ap (λ (u : Timer). comparedOf u v) (set-once t first first e))
+          ∙ sym (once-set (onceSet t first first) v v e)
+          ∙ sym (ap (λ (u : Timer). comparedOf u v) (once-set t first first e))
 
 -- ---- one half by itself
 
 module _ (t : Timer) (h : Half) (v : ℕ) where
   -- one-shot: that half of the comparator
   pub half-once : flag (t .periodic) ≡ false → halfComparedOf t h v ≡ comparedOf t (replaced h (t .comparator) v)
-  half-once e = set-once t _ _ e ∙ sym (set-once t _ _ e)
+  half-once e = once-set t _ _ e ∙ sym (once-set t _ _ e)
 
 -- ---- in 32-bit mode
 
@@ -95,10 +95,10 @@ set-reduced t c p c' p' e f = go (flag (t .periodic)) refl
   where
     go : (b : Bool) → flag (t .periodic) ≡ b → setOf t c p ≡ setOf t c' p'
     go true q =
-        set-periodic t c p q
+        periodic-set t c p q
         ∙ ap₂ (λ (x y : ℕ). withSet (withPeriod (withComparator t (cond (flag (t .«set_comparator»)) x (t .comparator))) y) 0) e f
-        ∙ sym (set-periodic t c' p' q)
-    go false q = set-once t c p q ∙ ap (withComparator t) e ∙ sym (set-once t c' p' q)
+        ∙ sym (periodic-set t c' p' q)
+    go false q = once-set t c p q ∙ ap (withComparator t) e ∙ sym (once-set t c' p' q)
 
 module _ (t : Timer) (w : t .narrow ≡ 1) where
   -- the low half is the whole number
@@ -123,17 +123,13 @@ module _ (t : Timer) (w : t .narrow ≡ 1) where
       c = kept (t .comparator) (z .comparator-fits w)
 
       unset : flag (t .periodic) ≡ false → t .«set_comparator» ≡ 0
-      unset e = by (ℕ-discrete (t .«set_comparator») 0)
-        where
-          by : Dec (t .«set_comparator» ≡ 0) → t .«set_comparator» ≡ 0
-          by (yes q) = q
-          by (no n) = absurd (omega (arith, eqb-false (t .periodic) 1 e, z .set-periodic n))
+      unset e = sym (only-where (t .periodic) (t .«set_comparator») (z .set-periodic)) ∙ ap (λ (b : Bool). cond b (t .«set_comparator») 0) e
 
       go : (b : Bool) → flag (t .periodic) ≡ b → halfComparedOf t half.High v ≡ withSet t 0
       go true e =
-          set-periodic t _ _ e
+          periodic-set t _ _ e
           ∙ ap₂ (λ (x y : ℕ). withSet (withPeriod (withComparator t x) y) 0) (same (flag (t .«set_comparator»)) _ (t .comparator) c) (kept (t .period) (z .period-fits w))
-      go false e = set-once t _ _ e ∙ ap₂ (λ (x y : ℕ). withSet (withComparator t x) y) c (unset e)
+      go false e = once-set t _ _ e ∙ ap₂ (λ (x y : ℕ). withSet (withComparator t x) y) c (unset e)
 
 -- ---- in halves without bit 6: the whole write
 
@@ -144,29 +140,29 @@ module _ (t : Timer) (v : ℕ) where
     where
       go : (b : Bool) → flag (t .periodic) ≡ b → comparedOf (comparedOf t x) v ≡ comparedOf t v
       go true e =
-          ap (λ (u : Timer). comparedOf u v) (set-periodic t x x e)
-          ∙ set-periodic (periodicSet t x x) v v e
+          ap (λ (u : Timer). comparedOf u v) (periodic-set t x x e)
+          ∙ periodic-set (periodicSet t x x) v v e
           ∙ ap (λ (b : Bool). withSet (withPeriod (withComparator t (cond b (reduced (narrowed t) x) (t .comparator))) (reduced (narrowed t) v)) 0) s
           ∙ sym (ap (λ (b : Bool). withSet (withPeriod (withComparator t (cond b (reduced (narrowed t) v) (t .comparator))) (reduced (narrowed t) v)) 0) s)
-          ∙ sym (set-periodic t v v e)
+          ∙ sym (periodic-set t v v e)
       go false e =
-          ap (λ (u : Timer). comparedOf u v) (set-once t x x e)
-          ∙ set-once (onceSet t x x) v v e
-          ∙ sym (set-once t v v e)
+          ap (λ (u : Timer). comparedOf u v) (once-set t x x e)
+          ∙ once-set (onceSet t x x) v v e
+          ∙ sym (once-set t v v e)
 
   pub halves-whole-set : (h : Half) → flag (t .«set_comparator») ≡ false → inHalves t h v ≡ comparedOf t v
   halves-whole-set h s = halves-set t h v ∙ set-again (first t h v) s
 
 -- ---- in halves in 32-bit mode, with bit 6 and without
 
-module _ (t : Timer) (w : t .narrow ≡ 1) (v : ℕ) (l : v < 2 ^ 64) where
+module _ (t : Timer) (w : t .narrow ≡ 1) (v : ℕ) where
   -- what is written again is there already
   same-again : comparedOf (comparedOf t v) v ≡ comparedOf t v
   same-again = go (flag (t .periodic)) refl
     where
       go : (b : Bool) → flag (t .periodic) ≡ b → comparedOf (comparedOf t v) v ≡ comparedOf t v
-      go true e = ap (λ (u : Timer). comparedOf u v) (set-periodic t v v e) ∙ set-periodic (periodicSet t v v) v v e ∙ sym (set-periodic t v v e)
-      go false e = ap (λ (u : Timer). comparedOf u v) (set-once t v v e) ∙ set-once (onceSet t v v) v v e ∙ sym (set-once t v v e)
+      go true e = ap (λ (u : Timer). comparedOf u v) (periodic-set t v v e) ∙ periodic-set (periodicSet t v v) v v e ∙ sym (periodic-set t v v e)
+      go false e = ap (λ (u : Timer). comparedOf u v) (once-set t v v e) ∙ once-set (onceSet t v v) v v e ∙ sym (once-set t v v e)
 
   -- the whole number, if its low half is the same
   by-low : (x : ℕ) → x % 2 ^ 32 ≡ v % 2 ^ 32 → comparedOf t x ≡ comparedOf t v
@@ -177,8 +173,8 @@ module _ (t : Timer) (w : t .narrow ≡ 1) (v : ℕ) (l : v < 2 ^ 64) where
   narrow-low-first = halves-set t half.Low v ∙ ap (λ (u : Timer). comparedOf u v) (by-low (first t half.Low v) (omega arith)) ∙ same-again
 
   -- high then low sets the period only: the comparator is set to what it is
-  pub narrow-high-first : Formed t → inHalves t half.High v ≡ comparedOf (comparedOf t (t .comparator)) v
-  narrow-high-first z = halves-set t half.High v ∙ ap (λ (u : Timer). comparedOf u v) (set-reduced t _ _ (t .comparator) (t .comparator) same same)
+  pub narrow-high-first : inHalves t half.High v ≡ comparedOf (comparedOf t (t .comparator)) v
+  narrow-high-first = halves-set t half.High v ∙ ap (λ (u : Timer). comparedOf u v) (set-reduced t _ _ (t .comparator) (t .comparator) same same)
     where
       same : reduced (narrowed t) (first t half.High v) ≡ reduced (narrowed t) (t .comparator)
       same = rw w (reduced-high (t .comparator) (halfOf half.High v))

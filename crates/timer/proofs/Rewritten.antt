@@ -16,16 +16,16 @@ use Rattle.timer.specs.Registers.{bit, configurationOf, configuredOf}
 use Rattle.timer.proofs.ReadBack.{Reads, configuration-reads}
 
 -- two numbers with the same writable bits
-pub record Alike (x y : ℕ) : Type 0 where
-  pub level : bit 1 x ≡ bit 1 y
-  pub interrupt : bit 2 x ≡ bit 2 y
-  pub periodic : bit 3 x ≡ bit 3 y
-  pub set : bit 6 x ≡ bit 6 y
-  pub narrow : bit 8 x ≡ bit 8 y
-  pub route : x / 2 ^ 9 % 2 ^ 5 ≡ y / 2 ^ 9 % 2 ^ 5
+record Alike (x y : ℕ) : Type 0 where
+  level : bit 1 x ≡ bit 1 y
+  interrupt : bit 2 x ≡ bit 2 y
+  periodic : bit 3 x ≡ bit 3 y
+  set : bit 6 x ≡ bit 6 y
+  narrow : bit 8 x ≡ bit 8 y
+  route : x / 2 ^ 9 % 2 ^ 5 ≡ y / 2 ^ 9 % 2 ^ 5
 
 -- are written alike
-pub configured-alike : (t : Timer) (x y : ℕ) → Alike x y → configuredOf t x ≡ configuredOf t y
+configured-alike : (t : Timer) (x y : ℕ) → Alike x y → configuredOf t x ≡ configuredOf t y
 unfolding configuredOf
 configured-alike t x y a =
     λ i.
@@ -57,7 +57,7 @@ fitting f x h = go (flag f) refl
     go false e = refl
 
 -- what is 0 but where a flag is set
-only-where : (f x : ℕ) → ((x ≡ 0 → ⊥) → f ≡ 1) → cond (flag f) x 0 ≡ x
+pub only-where : (f x : ℕ) → ((x ≡ 0 → ⊥) → f ≡ 1) → cond (flag f) x 0 ≡ x
 only-where f x h = go (ℕ-discrete x 0)
   where
     none : (b : Bool) → x ≡ 0 → cond b x 0 ≡ x
@@ -67,6 +67,10 @@ only-where f x h = go (ℕ-discrete x 0)
     go : Dec (x ≡ 0) → cond (flag f) x 0 ≡ x
     go (yes e) = none (flag f) e
     go (no n) = rw (eq-eqb f 1 (h n))
+
+-- a low half is the whole write, whatever stands above it
+pub configured-low : (t : Timer) (x v w : ℕ) → v ≡ halfOf half.Low w → configuredOf t (replaced half.Low x v) ≡ configuredOf t w
+configured-low t x v w e = configured-alike t (replaced half.Low x v) w (low-alike x v w e)
 
 module _ (t : Timer) (z : Formed t) where
   -- what the register reads, written back
@@ -91,10 +95,6 @@ module _ (t : Timer) (z : Formed t) where
 
       in-range : cond (ltb (t .route) 24) (t .route) (t .route) ≡ t .route
       in-range = rw (lt-ltb (t .route) 24 (z .route-pin))
-
-  -- a low half is the whole write, whatever stands above it
-  pub configured-low : (x v w : ℕ) → v ≡ halfOf half.Low w → configuredOf t (replaced half.Low x v) ≡ configuredOf t w
-  configured-low x v w e = configured-alike t (replaced half.Low x v) w (low-alike x v w e)
 
   -- a high half changes nothing, bit 6 and the status included
   pub configured-high : (v : ℕ) → configuredOf t (replaced half.High (configurationOf t) v) ≡ t

@@ -115,15 +115,15 @@ module _ (s : Timers) (n : ℕ) (l : n < 3) (w : at s n .narrow ≡ 1) where
   comparator-narrow-high z v = half-compares s half.High v n l ∙ ap (withTimer s n) (narrow-high (at s n) w (z .each n l) v)
 
   -- low then high is the whole write; high then low sets the period only
-  pub comparator-narrow-low-first : (v : ℕ) → v < 2 ^ 64 → inHalves s half.Low (0x108 + 0x20 * n) v ≡ writtenOf s (0x108 + 0x20 * n) v
-  comparator-narrow-low-first v g = by-timer s half.Low v n l ∙ ap (withTimer s n) (narrow-low-first (at s n) w v g) ∙ sym (comparator-write n l s v)
+  pub comparator-narrow-low-first : (v : ℕ) → inHalves s half.Low (0x108 + 0x20 * n) v ≡ writtenOf s (0x108 + 0x20 * n) v
+  comparator-narrow-low-first v = by-timer s half.Low v n l ∙ ap (withTimer s n) (narrow-low-first (at s n) w v) ∙ sym (comparator-write n l s v)
 
   pub comparator-narrow-high-first :
-      Formed s → (v : ℕ) → v < 2 ^ 64 →
+      (v : ℕ) →
       inHalves s half.High (0x108 + 0x20 * n) v ≡ writtenOf (writtenOf s (0x108 + 0x20 * n) (registerOf s (0x108 + 0x20 * n))) (0x108 + 0x20 * n) v
-  comparator-narrow-high-first z v g =
+  comparator-narrow-high-first v =
       by-timer s half.High v n l
-      ∙ ap (withTimer s n) (narrow-high-first (at s n) w v g (z .each n l))
+      ∙ ap (withTimer s n) (narrow-high-first (at s n) w v)
       ∙ sym (whole-twice s half.High v n l (at s n .comparator))
       ∙ ap (λ (c : ℕ). writtenOf (writtenOf s (0x108 + 0x20 * n) c) (0x108 + 0x20 * n) v) (sym (comparator-read n l s))
 

@@ -91,7 +91,7 @@ module _ (s : Timers) (z : Formed s) where
         record {
           low = λ v w e. half-replaces s half.Low v (0x100 + 0x20 * n) (λ q. omega arith) (λ m g q. omega arith)
               ∙ configuration-write n l s _
-              ∙ ap (withTimer s n) (configured-low (at s n) (z .each n l) (registerOf s (0x100 + 0x20 * n)) v w e)
+              ∙ ap (withTimer s n) (configured-low (at s n) (registerOf s (0x100 + 0x20 * n)) v w e)
               ∙ sym (configuration-write n l s w);
           high = λ v. half-replaces s half.High v (0x100 + 0x20 * n) (λ q. omega arith) (λ m g q. omega arith)
               ∙ configuration-write n l s _

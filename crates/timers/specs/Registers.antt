@@ -22,7 +22,7 @@ aligned width offset = (eqb width 4 || eqb width 8) && eqb (offset % width) 0
 abbrev pub inside : ℕ → Bool
 inside offset = ltb offset 0x400
 
--- a 4-byte write takes a value of at most 4,294,967,295
+-- a 4-byte write takes a value of at most 4,294,967,295; an access that is aligned has 4 bytes or 8
 abbrev pub fits : ℕ → ℕ → Bool
 fits width value = eqb width 8 || ltb value (2 ^ 32)
 

@@ -22,7 +22,7 @@ impl Timers {
         Half::High
     }
 
-    // Where the register stands that it lies in.
+    // Where the register stands that an offset lies in.
     fn whole_at(offset: u64) -> u64
         ensures { λ r. ⌜ r ≡ wholeAt offset ⌝ }
     {
@@ -70,7 +70,7 @@ impl Timers {
         half.replaced(self.beside(offset), value)
     }
 
-    // The number that a write of either width gives to it.
+    // The number that a write of either width gives to that rule.
     fn given(self, width: u64, half: Half, offset: u64, value: u64) -> u64
         requires { ⌜ fits width value ≡ true ⌝ }
         ensures { λ r. ⌜ r ≡ cond (eqb width 8) value (filledBy self half offset value) ⌝ }

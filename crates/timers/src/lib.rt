@@ -12,7 +12,7 @@ ghost use Rattle.timers.specs.Formed.{wellFormed};
 ghost use Rattle.timers.specs.Registers.{timerRegister};
 ghost use Rattle.timers.specs.Inner.{timerPut};
 use answers::Answer;
-pub use timer::Half;
+use timer::Half;
 pub use timer::Timer;
 
 // `enabled` is 0 or 1: any other value is a state that is not well formed. No byte of it is padding.
@@ -69,9 +69,9 @@ impl Timers {
 
     // three timers
     pub const COUNT: usize = 3;
-    // an access is so many bytes wide, and its offset a multiple of that: the whole register, or a half of it
+    // an access of a whole register is so many bytes wide, and its offset a multiple of that
     pub const WIDTH: u64 = 8;
-
+    // and of a half
     pub const HALF_WIDTH: u64 = 4;
     // 2^32: a 4-byte write's value is below it
     pub const VALUE_END: u64 = 4294967296;
