@@ -6,7 +6,7 @@ use mathlib.Core.Bool.{cond}
 use native.Mathlib.Omega.{arith}
 use native.Mathlib.Decide.{ℕ-discrete}
 use lib.Dec.{eqb}
-use Rattle.answers.specs.Sheet.{value}
+use Rattle.answers.specs.Sheet.{ok, value}
 use Rattle.timer.specs.declared.Timer.{Timer}
 use Rattle.timer.specs.declared.Half.{Half}
 use Rattle.timer.specs.declared.Half.the-variants as half
@@ -20,18 +20,18 @@ use Rattle.timers.specs.Formed.{Formed as TimersFormed}
 use Rattle.timers.specs.Registers.{registerOf, writtenOf, halfWritten}
 use Rattle.timers.proofs.Formed.{formed-in}
 use Rattle.timers.proofs.Places.{configuration-read}
-use Rattle.timers.proofs.InHalves.{half-compared-at, comparator-narrow-low, comparator-narrow-high}
+use Rattle.timers.proofs.InHalves.{half-compared-at, comparator-narrow-low, comparator-narrow-high, half-comparator-drives}
 use Rattle.timers.proofs.InHalves as Timed
 use Rattle.board.specs.declared.Board.{Board}
 use Rattle.board.specs.declared.Turn.{Turn}
-use Rattle.board.specs.State.{board}
+use Rattle.board.specs.State.{board, turn}
 use Rattle.board.specs.Step.{turnOf}
 use Rattle.board.specs.Accesses.{set, setHalf, configuration, comparator}
 use Rattle.board.proofs.Formed.{Formed}
 use Rattle.board.proofs.Keeps.{keeps}
-use Rattle.board.proofs.Windows.{joined-timers}
-use Rattle.board.proofs.TimersMap.{register, bit, less}
-use Rattle.board.proofs.Halves.{shown, is, half-sets, whole}
+use Rattle.board.proofs.Windows.{joined-still, joined-timers}
+use Rattle.board.proofs.TimersMap.{register, bit, less, shown, shown-is}
+use Rattle.board.proofs.Halves.{half-sets, whole}
 
 -- k is what the timer's configuration reads
 module _ (b : Board) (z : Formed b) (n k : ℕ) (l : n < 3) (e : register b (configuration n) ≡ value k) where
@@ -45,7 +45,7 @@ module _ (b : Board) (z : Formed b) (n k : ℕ) (l : n < 3) (e : register b (con
   f = formed-in block (z .timed)
 
   was : registerOf block (configuration n) ≡ k
-  was = is b z half.Low (configuration n) (omega arith) (omega arith) k e
+  was = shown-is b z (configuration n) (omega arith) (omega arith) k e
 
   -- its bits are the timer's
   pub bits : Reads k t
@@ -98,7 +98,7 @@ module _ (b : Board) (z : Formed b) (n k : ℕ) (l : n < 3) (e : register b (con
     -- "Bit 6 clears at the first half", whichever that is; the other bits of the configuration stay
     pub half-unsets : register next (configuration n) ≡ value (k - bit 6 k)
     half-unsets =
-        shown next (keeps b z (setHalf h (comparator n) v)) half.Low (configuration n) (omega arith) (omega arith)
+        shown next (keeps b z (setHalf h (comparator n) v)) (configuration n) (omega arith) (omega arith)
         ∙ ap (λ (x : Timers). value (registerOf x (configuration n))) after
         ∙ ap value (less unset (bit 6 k) k (ap (λ (x : ℕ). unset + bit 6 x) (sym was) ∙ Timed.half-unsets block f h v n l ∙ was))
       where
@@ -110,7 +110,7 @@ module _ (b : Board) (z : Formed b) (n k : ℕ) (l : n < 3) (e : register b (con
     half-one-shot r q p =
         whole b z h (comparator n) (omega arith) (omega arith) v (replaced h r v) g
         (Timed.half-one-shot block f h v n l (sym (bits .periodic) ∙ p)
-        ∙ ap (λ (x : ℕ). writtenOf block (comparator n) (replaced h x v)) (is b z h (comparator n) (omega arith) (omega arith) r q))
+        ∙ ap (λ (x : ℕ). writtenOf block (comparator n) (replaced h x v)) (shown-is b z (comparator n) (omega arith) (omega arith) r q))
 
   -- ---- in 32-bit mode
 
@@ -124,5 +124,8 @@ module _ (b : Board) (z : Formed b) (n k : ℕ) (l : n < 3) (e : register b (con
       narrow-low = whole b z half.Low (comparator n) (omega arith) (omega arith) v v g (comparator-narrow-low block n l narrow v g)
 
       -- "A high half in 32-bit mode stores 0": the comparator's low half is kept, and so is the period; bit 6 is cleared, and that is all
-      pub narrow-high : turnOf b (setHalf half.High (comparator n) v) .board .timers ≡ withTimer block n (withSet t 0)
-      narrow-high = after half.High v g ∙ comparator-narrow-high block n l narrow f v
+      pub narrow-high : turnOf b (setHalf half.High (comparator n) v) ≡ turn (board (b .controller) (withTimer block n (withSet t 0)) (b .outside)) ok
+      narrow-high =
+          half-sets b z half.High (comparator n) (omega arith) (omega arith) v g
+          ∙ ap (λ (x : Board). turn x ok) (joined-still b z _ (λ p. half-comparator-drives block p n l half.High v))
+          ∙ ap (λ (x : Timers). turn (board (b .controller) x (b .outside)) ok) (comparator-narrow-high block n l narrow f v)

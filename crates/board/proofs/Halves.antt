@@ -22,8 +22,8 @@ use Rattle.board.specs.Step.{byTimers, turnOf}
 use Rattle.board.specs.Runs.{answers}
 use Rattle.board.specs.Accesses.{set, setHalf, showHalf, comparator}
 use Rattle.board.proofs.Formed.{Formed}
-use Rattle.board.proofs.Windows.{same-value, joined-same, timers-reads, timers-writes, shows, sets}
-use Rattle.board.proofs.TimersMap.{register}
+use Rattle.board.proofs.Windows.{same-value, joined-same, timers-reads, timers-writes, sets}
+use Rattle.board.proofs.TimersMap.{register, shown, shown-is}
 
 -- the block has its three timers, as the code's array does
 abbrev pub Three : Board → Type 0
@@ -33,19 +33,13 @@ module _ (b : Board) (z : Formed b) (h : Half) (o : ℕ) (a : o % 8 ≡ 0) (l : 
   abbrev s : Timers
   s = b .timers
 
-  pub shown : register b o ≡ value (registerOf s o)
-  shown = ap (λ (t : Turn). t .answer) (shows b z o a l)
-
-  pub is : (r : ℕ) → register b o ≡ value r → registerOf s o ≡ r
-  is r e = same-value _ _ (sym shown ∙ e)
-
   -- ---- "A half read gives that half of the 8-byte value."
 
   half-shows : turnOf b (showHalf h o) ≡ turn b (value (halfOf h (registerOf s o)))
   half-shows = timers-reads b z 4 (placeOf h o) ∙ ap (λ t. turn b (t .answer)) (Timed.half-reads h o a s l)
 
   pub half-read : (r : ℕ) → register b o ≡ value r → turnOf b (showHalf h o) ≡ turn b (value (halfOf h r))
-  half-read r e = half-shows ∙ ap (λ (x : ℕ). turn b (value (halfOf h x))) (is r e)
+  half-read r e = half-shows ∙ ap (λ (x : ℕ). turn b (value (halfOf h x))) (shown-is b z o a l r e)
 
   -- ---- "A half write replaces that half of a counter or configuration and then follows the rule for the whole register"
 
@@ -58,7 +52,7 @@ module _ (b : Board) (z : Formed b) (h : Half) (o : ℕ) (a : o % 8 ≡ 0) (l : 
   pub half-write :
       (o ≡ 0x020 → ⊥) → ((n : ℕ) → n < 3 → o ≡ comparator n → ⊥) → (r v : ℕ) → v < 2 ^ 32 → register b o ≡ value r →
       turnOf b (setHalf h o v) ≡ turnOf b (set o (replaced h r v))
-  half-write d c r v g e = whole v (replaced h r v) g (Timed.half-replaces s h v o d c ∙ ap (λ (x : ℕ). writtenOf s o (replaced h x v)) (is r e))
+  half-write d c r v g e = whole v (replaced h r v) g (Timed.half-replaces s h v o d c ∙ ap (λ (x : ℕ). writtenOf s o (replaced h x v)) (shown-is b z o a l r e))
 
   pub half-done : (v : ℕ) → v < 2 ^ 32 → turnOf b (setHalf h o v) .answer ≡ ok
   half-done v g = ap (λ (t : Turn). t .answer) (half-sets v g)
@@ -83,7 +77,7 @@ module _ (b : Board) (z : Formed b) (o : ℕ) (a : o % 8 ≡ 0) (l : o < 0x400) 
       (low high : ℕ) → turnOf b (showHalf half.Low o) .answer ≡ value low → turnOf b (showHalf half.High o) .answer ≡ value high →
       register b o ≡ value (high * 2 ^ 32 + low)
   reads-whole low high e f =
-      shown b z half.Low o a l
+      shown b z o a l
       ∙ ap value (sym (halves-whole r) ∙ ap₂ (λ (x y : ℕ). y * 2 ^ 32 + x) (is-half half.Low low e) (is-half half.High high f))
     where
       r : ℕ

@@ -5,10 +5,6 @@ use mathlib.Core.List.{List, [], _∷_}
 use native.Mathlib.Omega.{arith}
 use lib.ListN.{length}
 use Rattle.answers.specs.Sheet.{ok, value}
-use Rattle.entries.specs.declared.Entries.{Entries}
-use Rattle.entries.proofs.Pulse.{wired-same}
-use Rattle.controller.specs.State.{withEntries}
-use Rattle.controller.specs.Steps.{rewired}
 use Rattle.timer.specs.declared.Half.{Half}
 use Rattle.timer.specs.declared.Half.the-variants as half
 use Rattle.timer.specs.Halves.{halfOf, replaced}
@@ -17,7 +13,6 @@ use Rattle.timers.specs.declared.Timers.{Timers}
 use Rattle.timers.specs.State.{at}
 use Rattle.timers.specs.Registers.{registerOf, writtenOf, halfWritten}
 use Rattle.timers.specs.Tick.{drivesOf}
-use Rattle.timers.proofs.Formed.{formed-in}
 use Rattle.timers.proofs.Halves as Timed
 use Rattle.timers.proofs.Places.{Place, capabilities, enable, status, counter, configuration, comparator, unlisted, place}
 use Rattle.timers.proofs.LowOnly.{written-three}
@@ -33,10 +28,9 @@ use Rattle.board.specs.Accesses.{set, setHalf}
 use Rattle.board.specs.Accesses as Accesses
 use Rattle.board.proofs.Formed.{Formed}
 use Rattle.board.proofs.Keeps.{keeps}
-use Rattle.board.proofs.Rule.{wires-same}
-use Rattle.board.proofs.Windows.{joined-timers, timers-reads, sets}
-use Rattle.board.proofs.TimersMap.{register}
-use Rattle.board.proofs.Halves.{Three, shown, is, half-sets, half-done, low-whole, high-nothing}
+use Rattle.board.proofs.Windows.{joined-still, joined-timers, timers-reads, sets}
+use Rattle.board.proofs.TimersMap.{register, shown, shown-is}
+use Rattle.board.proofs.Halves.{Three, half-sets, half-done, low-whole, high-nothing}
 use Rattle.board.proofs.ComparatorHalves.{bits, narrow}
 
 -- ---- one half, and then the other
@@ -46,12 +40,6 @@ inTwo h o v = setHalf h o (halfOf h v) ∷ setHalf (other h) o (halfOf (other h)
 
 -- the first of two writes moves no wire
 module _ (b : Board) (z : Formed b) (s1 : Timers) (still : (p : ℕ) → drivesOf s1 p ≡ drivesOf (b .timers) p) where
-  joined-still : joined (b .controller) s1 (b .outside) ≡ board (b .controller) s1 (b .outside)
-  unfolding joined
-  joined-still =
-      ap (λ (w : List ℕ). board (rewired (b .controller) w) s1 (b .outside)) (wires-same (b .outside) (b .timers) s1 still ∙ sym (z .wired))
-      ∙ ap (λ (e : Entries). board (withEntries (b .controller) e) s1 (b .outside)) (wired-same (b .controller .entries) (z .sized))
-
   two-writes :
       (q r : Call) (f : Timers → Timers) → turnOf b q .board ≡ joined (b .controller) s1 (b .outside) →
       ((x : Board) → Formed x → turnOf x r .board ≡ joined (x .controller) (f (x .timers)) (x .outside)) →
@@ -59,17 +47,18 @@ module _ (b : Board) (z : Formed b) (s1 : Timers) (still : (p : ℕ) → drivesO
   unfolding run
   two-writes q r f e g =
       g (turnOf b q .board) (keeps b z q)
-      ∙ ap (λ (x : Board). joined (x .controller) (f (x .timers)) (x .outside)) (e ∙ joined-still)
+      ∙ ap (λ (x : Board). joined (x .controller) (f (x .timers)) (x .outside)) (e ∙ joined-still b z s1 still)
+
+-- what a whole write does to the block
+set-joins : (o w : ℕ) → o % 8 ≡ 0 → o < 0x400 → (x : Board) → Formed x → turnOf x (set o w) .board ≡ joined (x .controller) (writtenOf (x .timers) o w) (x .outside)
+set-joins o w a l x y = ap (λ (t : Turn). t .board) (sets x y o a l w)
 
 module _ (b : Board) (z : Formed b) (h : Half) (v : ℕ) (g : v < 2 ^ 64) where
-  -- what each half, and each whole write, does to the block
+  -- what each half does to it
   half-joins :
       (k : Half) (o : ℕ) → o % 8 ≡ 0 → o < 0x400 → (x : Board) → Formed x →
       turnOf x (setHalf k o (halfOf k v)) .board ≡ joined (x .controller) (halfWritten (x .timers) k o (halfOf k v)) (x .outside)
   half-joins k o a l x y = ap (λ (t : Turn). t .board) (half-sets x y k o a l (halfOf k v) (half-lt k v g))
-
-  set-joins : (o w : ℕ) → o % 8 ≡ 0 → o < 0x400 → (x : Board) → Formed x → turnOf x (set o w) .board ≡ joined (x .controller) (writtenOf (x .timers) o w) (x .outside)
-  set-joins o w a l x y = ap (λ (t : Turn). t .board) (sets x y o a l w)
 
   in-two-low :
       Three b → (o : ℕ) → o % 8 ≡ 0 → o < 0x400 → (o ≡ 0x0F0 → ⊥) → ((n : ℕ) → n < 3 → o ≡ Accesses.comparator n → ⊥) → run b (inTwo h o v) ≡ run b (set o v ∷ [])
@@ -128,7 +117,7 @@ module _ (b : Board) (z : Formed b) (h : Half) (v : ℕ) (g : v < 2 ^ 64) where
         by-halves
         ∙ ap (λ (x : Timers). joined (b .controller) x (b .outside)) (comparator-in-halves (b .timers) h v n l)
         ∙ sym (whole-then (replaced h (registerOf (b .timers) here) (halfOf h v)))
-        ∙ ap (λ (x : ℕ). run b (set here (replaced h x (halfOf h v)) ∷ set here v ∷ [])) (is b z h here (omega arith) (omega arith) r e)
+        ∙ ap (λ (x : ℕ). run b (set here (replaced h x (halfOf h v)) ∷ set here v ∷ [])) (shown-is b z here (omega arith) (omega arith) r e)
 
     -- without bit 6 it is the whole write
     in-two-unset : at (b .timers) n .«set_comparator» ≡ 0 → run b (inTwo h here v) ≡ run b (set here v ∷ [])
@@ -149,17 +138,17 @@ module _ (b : Board) (z : Formed b) (v n k : ℕ) (g : v < 2 ^ 64) (l : n < 3) (
   unfolding run
   narrow-low-first =
       by-halves b z half.Low v g n l
-      ∙ ap (λ (x : Timers). joined (b .controller) x (b .outside)) (comparator-narrow-low-first (b .timers) n l narrow-here v g)
-      ∙ sym (set-joins b z half.Low v g (Accesses.comparator n) v (omega arith) (omega arith) b z)
+      ∙ ap (λ (x : Timers). joined (b .controller) x (b .outside)) (comparator-narrow-low-first (b .timers) n l narrow-here v)
+      ∙ sym (set-joins (Accesses.comparator n) v (omega arith) (omega arith) b z)
 
   -- high then low, with bit 6: the comparator is set to what it reads, and then the number is the period only
   pub narrow-high-first :
       (r : ℕ) → register b (Accesses.comparator n) ≡ value r → run b (inTwo half.High (Accesses.comparator n) v) ≡ run b (set (Accesses.comparator n) r ∷ set (Accesses.comparator n) v ∷ [])
   narrow-high-first r q =
       by-halves b z half.High v g n l
-      ∙ ap (λ (x : Timers). joined (b .controller) x (b .outside)) (comparator-narrow-high-first (b .timers) n l narrow-here (formed-in (b .timers) (z .timed)) v g)
+      ∙ ap (λ (x : Timers). joined (b .controller) x (b .outside)) (comparator-narrow-high-first (b .timers) n l narrow-here v)
       ∙ sym (whole-then b z half.High v g n l (registerOf (b .timers) (Accesses.comparator n)))
-      ∙ ap (λ (x : ℕ). run b (set (Accesses.comparator n) x ∷ set (Accesses.comparator n) v ∷ [])) (is b z half.High (Accesses.comparator n) (omega arith) (omega arith) r q)
+      ∙ ap (λ (x : ℕ). run b (set (Accesses.comparator n) x ∷ set (Accesses.comparator n) v ∷ [])) (shown-is b z (Accesses.comparator n) (omega arith) (omega arith) r q)
 
 -- ---- every register, whichever half comes first
 
@@ -191,7 +180,7 @@ module _ (b : Board) (z : Formed b) (h : Half) (o : ℕ) (a : o % 8 ≡ 0) (l : 
           k = registerOf (b .timers) (Accesses.configuration n)
 
           reads : register b (Accesses.configuration n) ≡ value k
-          reads = shown b z half.Low (Accesses.configuration n) (omega arith) (omega arith)
+          reads = shown b z (Accesses.configuration n) (omega arith) (omega arith)
 
       go : Place o → run b (inTwo h o v) ≡ run b (set o v ∷ [])
       go (capabilities e) = other-place (λ q. omega arith) (λ n m q. omega arith)

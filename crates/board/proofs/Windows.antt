@@ -16,6 +16,7 @@ use Rattle.controller.proofs.ReadBack.{reads-index, reads-data}
 use Rattle.controller.proofs.ReadBack.{selects as controller-selects, puts as controller-puts}
 use Rattle.timers.specs.declared.Timers.{Timers}
 use Rattle.timers.specs.Registers.{registerOf, writtenOf}
+use Rattle.timers.specs.Tick.{drivesOf}
 use Rattle.timers.specs.Call.{readingOf as timersReading, writingOf as timersWriting, turn as timersTurn}
 use Rattle.timers.proofs.Access.{reading-done, writing-done, shown-whole, stored-whole}
 use Rattle.board.specs.declared.Board.{Board}
@@ -25,6 +26,7 @@ use Rattle.board.specs.Wires.{joined}
 use Rattle.board.specs.Step.{byController, byTimers, readingOf, writingOf, turnOf}
 use Rattle.board.specs.Accesses.{select, index, put, get, set, show}
 use Rattle.board.proofs.Formed.{Formed, formed-out}
+use Rattle.board.proofs.Rule.{wires-same}
 use Rattle.board.proofs.Keeps.{served}
 use Rattle.board.proofs.Served.{served-read, served-write}
 
@@ -40,12 +42,17 @@ valueOf (answer.Refused r) = 0
 pub same-value : (x y : ℕ) → value x ≡ value y → x ≡ y
 same-value x y = ap valueOf
 
+-- joined with a block that drives the same pins, the controller is the same
+pub joined-still :
+    (b : Board) → Formed b → (s : Timers) → ((p : ℕ) → drivesOf s p ≡ drivesOf (b .timers) p) → joined (b .controller) s (b .outside) ≡ board (b .controller) s (b .outside)
+unfolding joined
+joined-still b z s still =
+    ap (λ (w : List ℕ). board (rewired (b .controller) w) s (b .outside)) (wires-same (b .outside) (b .timers) s still ∙ sym (z .wired))
+    ∙ ap (λ (e : Entries). board (withEntries (b .controller) e) s (b .outside)) (wired-same (b .controller .entries) (z .sized))
+
 -- joined again, the same parts are the same board
 pub joined-same : (b : Board) → Formed b → joined (b .controller) (b .timers) (b .outside) ≡ b
-unfolding joined
-joined-same b z =
-    ap (λ (l : List ℕ). board (rewired (b .controller) l) (b .timers) (b .outside)) (sym (z .wired))
-    ∙ ap (λ (e : Entries). board (withEntries (b .controller) e) (b .timers) (b .outside)) (wired-same (b .controller .entries) (z .sized))
+joined-same b z = joined-still b z (b .timers) (λ p. refl)
 
 pub joined-timers : (c : Controller) (s : Timers) (o : List ℕ) → joined c s o .timers ≡ s
 unfolding joined

@@ -57,7 +57,7 @@ sheet =
     (half 0x000 0x80862201 ∷ half 0x004 0x05F5E100 ∷ half 0x100 0x30 ∷ half 0x104 0x00FFFFFF ∷ half 0x108 0xFFFFFFFF ∷ half 0x10C 0xFFFFFFFF
     ∷ eight 0x0F0 digits ∷ half 0x0F0 0x76543210 ∷ half 0x0F4 0xFEDCBA98 ∷ [])
     -- H2 offsets not listed
-    ∷ (half 0x008 0 ∷ half 0x00C 0 ∷ half 0x0F8 0 ∷ half 0x160 0 ∷ half 0x3FC 0 ∷ four 0x3FC 7 ∷ four 0x000 7 ∷ four 0x004 7 ∷ whole 0x000 0x05F5E10080862201 ∷ [])
+    ∷ (half 0x008 0 ∷ half 0x00C 0 ∷ half 0x0F8 0 ∷ half 0x134 0 ∷ half 0x160 0 ∷ half 0x3FC 0 ∷ four 0x3FC 7 ∷ four 0x000 7 ∷ four 0x004 7 ∷ whole 0x000 0x05F5E10080862201 ∷ [])
     -- ---- "A half write replaces that half of a counter or configuration and then follows the rule for the whole register"
 
     -- H3 the counter; while enabled both halves are ignored
@@ -75,7 +75,7 @@ sheet =
     -- ---- "a status write takes the missing half as zeros"
 
     -- H8 so 0x024 clears nothing
-    ∷ (eight 0x100 2 ∷ eight 0x120 2 ∷ eight 0x140 2 ∷ eight 0x108 1 ∷ eight 0x128 1 ∷ eight 0x148 1 ∷ enabled ∷ ticked 1 1 1 1 ∷ whole 0x020 7
+    ∷ (eight 0x100 2 ∷ eight 0x120 2 ∷ eight 0x140 2 ∷ eight 0x108 1 ∷ eight 0x128 1 ∷ eight 0x148 1 ∷ enabled ∷ ticked 1 1 1 1 ∷ whole 0x020 7 ∷ four 0x108 5 ∷ four 0x12C 0 ∷ whole 0x020 7
     ∷ four 0x024 7 ∷ whole 0x020 7 ∷ half 0x020 7 ∷ half 0x024 0 ∷ four 0x020 2 ∷ whole 0x020 5 ∷ four 0x024 0xFFFFFFFF ∷ whole 0x020 5 ∷ four 0x020 5 ∷ whole 0x020 0 ∷ [])
     -- ---- "For a comparator, the half is replaced in whatever the whole write would set: comparator, period or both."
 
@@ -112,14 +112,20 @@ sheet =
     -- ---- refusals: 2, 1 for the offset, 4
 
     -- H18 "for any width but 4 and 8, or an offset that isn't a multiple of the width"; then 1
-    ∷ (refuses (call.Read 1 0 0) refusal.Width ∷ refuses (call.Read 1 1 0) refusal.Width ∷ refuses (call.Read 1 2 0) refusal.Width ∷ refuses (call.Read 1 16 0) refusal.Width
-    ∷ refuses (call.Read 1 4 0x002) refusal.Width ∷ refuses (call.Read 1 8 0x004) refusal.Width ∷ refuses (call.Read 1 4 0x402) refusal.Width
+    ∷ (refuses (call.Read 1 0 0) refusal.Width ∷ refuses (call.Read 1 1 0) refusal.Width ∷ refuses (call.Read 1 2 0) refusal.Width ∷ refuses (call.Read 1 3 0) refusal.Width
+    ∷ refuses (call.Read 1 5 0) refusal.Width ∷ refuses (call.Read 1 12 0) refusal.Width ∷ refuses (call.Read 1 16 0) refusal.Width
+    ∷ refuses (call.Read 1 4 0x002) refusal.Width ∷ refuses (call.Read 1 4 0x006) refusal.Width ∷ refuses (call.Read 1 8 0x004) refusal.Width ∷ refuses (call.Read 1 4 0x402) refusal.Width
     ∷ refuses (call.Read 1 8 0x404) refusal.Width ∷ refuses (call.Read 1 4 0x400) refusal.Offset ∷ refuses (call.Read 1 4 0x404) refusal.Offset ∷ [])
     -- H19 4 comes last, at every offset below 0x400, and for 4 bytes only; a refused write changes nothing
     ∷ (refuses (call.Write 1 2 0x000 over) refusal.Width ∷ refuses (call.Write 1 4 0x402 over) refusal.Width ∷ refuses (call.Write 1 4 0x400 over) refusal.Offset
     ∷ refuses (call.Write 1 4 0x404 over) refusal.Offset ∷ refuses (call.Write 1 4 0x3FC over) refusal.Value ∷ refuses (call.Write 1 4 0x000 over) refusal.Value
+    ∷ refuses (call.Write 1 4 0x004 over) refusal.Value ∷ refuses (call.Write 1 4 0x024 over) refusal.Value
     ∷ refuses (call.Write 1 4 0x008 over) refusal.Value ∷ refuses (call.Write 1 4 0x0F0 over) refusal.Value ∷ refuses (call.Write 1 4 0x10C ones) refusal.Value
     ∷ whole 0x0F0 0 ∷ whole 0x108 ones ∷ four 0x0F4 0xFFFFFFFF ∷ whole 0x0F0 0xFFFFFFFF00000000 ∷ eight 0x0F0 over ∷ whole 0x0F0 over ∷ [])
+    -- ---- what a program can do
+
+    -- H20 bit 6 written again before the second half: both numbers get both halves, 10
+    ∷ (eight 0x100 0x48 ∷ four 0x108 10 ∷ four 0x100 0x48 ∷ four 0x10C 0 ∷ whole 0x108 10 ∷ whole 0x100 0x00FFFFFF00000038 ∷ enabled ∷ ticked 10 1 0 0 ∷ whole 0x108 20 ∷ [])
     ∷ []
 
 -- the statement computes, so it opens every definition down to the ground
