@@ -134,6 +134,8 @@ pub const INDEX: u64 = 0x00;
 pub const DATA: u64 = 0x10;
 /// Index of entry 0's low word; entry n's is 2n above it, and its high word one above that.
 pub const ENTRY: u64 = 0x10;
+/// Offset in the timers' window: the capabilities, read only. Bits 63:32 are a tick's length in femtoseconds.
+pub const CAPABILITIES: u64 = 0x000;
 /// Offset in the timers' window: bit 0 enables the block.
 pub const CONFIGURATION: u64 = 0x010;
 /// Offset in the timers' window: bit n is timer n's status; writing 1 clears it.
@@ -246,9 +248,11 @@ impl Board {
     /// A register read. Width 4 gives one half of a timer register.
     ///
     /// ```
-    /// use nataqvoju::{Board, Refusal, Window, HIGH_HALF, TIMER};
+    /// use nataqvoju::{Board, Refusal, Window, CAPABILITIES, HIGH_HALF, TIMER};
     ///
     /// let board = Board::new();
+    /// // a tick is 100,000,000 femtoseconds
+    /// assert_eq!(board.read(Window::TIMERS, 4, CAPABILITIES + HIGH_HALF)?, 100_000_000);
     /// // bits 63:32 of a configuration name the pins that it can be routed to; bits 5 and 4 are 1
     /// assert_eq!(board.read(Window::TIMERS, 8, TIMER)?, 0x00FF_FFFF_0000_0030);
     /// assert_eq!(board.read(Window::TIMERS, 4, TIMER)?, 0x30);
@@ -263,13 +267,14 @@ impl Board {
 
     /// A register write.
     ///
-    /// Width 4 replaces one half of a timer register and then does what a write of the whole does; of the status the
-    /// other half is zeros. For a comparator, the half is replaced in whatever the whole write would set: the
+    /// Width 4 replaces one half of a timer register and then does what a write of the whole does; for the status the
+    /// other half counts as zeros. For a comparator, the half is replaced in whatever the whole write would set: the
     /// comparator, the period, or (periodic, with bit 6) both, each of which keeps its own other half. Bit 6 is then 0,
     /// so the second half goes into the period alone. In 32-bit mode a high half stores 0.
     ///
-    /// So a periodic timer is set up in halves in 32-bit mode with the low half first, or by its comparator as one-shot
-    /// first, then bit 3 without bit 6. Bit 6 in 64-bit mode is a trap:
+    /// Two ways that work for a periodic timer in halves: 32-bit mode with the low half first, or the comparator as
+    /// one-shot first, then bit 3 without bit 6, then the period (docs/MONITOR.md has a third). Bit 6 in 64-bit mode is
+    /// a trap: only the first half reaches the comparator.
     ///
     /// ```
     /// use nataqvoju::{Board, Window, COMPARATOR, HIGH_HALF, TIMER, TIMER_STEP};
@@ -278,12 +283,18 @@ impl Board {
     /// const SET_COMPARATOR: u64 = 0x40;
     /// const NARROW: u64 = 0x100;
     /// let mut board = Board::new();
-    /// // the trap: the comparator's high half is left as it was, all ones from reset
+    /// // the trap, low half first: the comparator's high half is left as it was, all ones from reset
     /// board.write(Window::TIMERS, 4, TIMER, SET_COMPARATOR | PERIODIC)?;
     /// board.write(Window::TIMERS, 4, TIMER + COMPARATOR, 10)?;
     /// board.write(Window::TIMERS, 4, TIMER + COMPARATOR + HIGH_HALF, 0)?;
     /// assert_eq!(board.read(Window::TIMERS, 8, TIMER + COMPARATOR)?, 0xFFFF_FFFF_0000_000A);
-    /// // 32-bit mode
+    /// // high half first: its low half is left, so the first firing comes after 2^32 - 1 ticks, seven minutes
+    /// let last = TIMER + 2 * TIMER_STEP;
+    /// board.write(Window::TIMERS, 4, last, SET_COMPARATOR | PERIODIC)?;
+    /// board.write(Window::TIMERS, 4, last + COMPARATOR + HIGH_HALF, 0)?;
+    /// board.write(Window::TIMERS, 4, last + COMPARATOR, 10)?;
+    /// assert_eq!(board.read(Window::TIMERS, 8, last + COMPARATOR)?, 0x0000_0000_FFFF_FFFF);
+    /// // 32-bit mode, low half first
     /// let next = TIMER + TIMER_STEP;
     /// board.write(Window::TIMERS, 4, next, NARROW | SET_COMPARATOR | PERIODIC)?;
     /// board.write(Window::TIMERS, 4, next + COMPARATOR, 10)?;
