@@ -2,15 +2,9 @@
 #![allow(missing_docs)]
 
 mod common;
-use common::Desk;
+use common::{Desk, FIXED, NARROW, PERIODIC, SET};
 use peer::generate::random_board;
 use peer::random::Random;
-
-const PERIODIC: u64 = 1 << 3;
-const SET: u64 = 1 << 6;
-const NARROW: u64 = 1 << 8;
-/// What a timer's configuration reads after a reset.
-const FIXED: u64 = 0x00FF_FFFF_0000_0030;
 
 const COUNTER: u64 = 0x0F0;
 const CONFIGURATION: u64 = 0x100;

@@ -3,26 +3,14 @@
 #![allow(missing_docs)]
 
 mod common;
-use common::Desk;
+use common::{Desk, EDGE, EDGE_LOW, FIXED, INTERRUPT, LEVEL_TYPE, NARROW, PERIODIC, SET};
 use peer::generate::random_board;
 use peer::random::Random;
-
-const LEVEL_TYPE: u64 = 1 << 1;
-const INTERRUPT: u64 = 1 << 2;
-const PERIODIC: u64 = 1 << 3;
-const SET: u64 = 1 << 6;
-const NARROW: u64 = 1 << 8;
-/// What a timer's configuration reads after a reset.
-const FIXED: u64 = 0x00FF_FFFF_0000_0030;
 
 const ENABLE: u64 = 0x010;
 const STATUS: u64 = 0x020;
 const COUNTER: u64 = 0x0F0;
 const CONFIGURATION: u64 = 0x100;
-
-/// An edge entry with vector 0x30, and an active-low one.
-const EDGE: u64 = 0x30;
-const EDGE_LOW: u64 = 0x2030;
 
 const BIG: u64 = 1 << 32;
 

@@ -6,6 +6,19 @@ use peer::controller::{DATA, INDEX};
 use peer::timer::bits;
 use peer::timers::{comparator_of, configuration_of, COUNTER, ENABLE, STATUS};
 
+// a timer's configuration
+pub const LEVEL_TYPE: u64 = 1 << 1;
+pub const INTERRUPT: u64 = 1 << 2;
+pub const PERIODIC: u64 = 1 << 3;
+pub const SET: u64 = 1 << 6;
+pub const NARROW: u64 = 1 << 8;
+/// What a timer's configuration reads after a reset.
+pub const FIXED: u64 = 0x00FF_FFFF_0000_0030;
+
+/// An edge entry with vector 0x30, and an active-low one.
+pub const EDGE: u64 = 0x30;
+pub const EDGE_LOW: u64 = 0x2030;
+
 pub struct Desk(pub Board);
 
 impl Desk {
