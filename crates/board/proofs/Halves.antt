@@ -88,17 +88,17 @@ module _ (b : Board) (z : Formed b) (o : ℕ) (a : o % 8 ≡ 0) (l : o < 0x400) 
 
 -- ---- registers whose low half is all that can be written: all but the counter and the comparators
 
-module _ (b : Board) (z : Formed b) (three : Three b) (o : ℕ) (a : o % 8 ≡ 0) (l : o < 0x400) (d : o ≡ 0x0F0 → ⊥) (c : (n : ℕ) → n < 3 → o ≡ comparator n → ⊥) where
+module _ (b : Board) (z : Formed b) (o : ℕ) (a : o % 8 ≡ 0) (l : o < 0x400) (d : o ≡ 0x0F0 → ⊥) (c : (n : ℕ) → n < 3 → o ≡ comparator n → ⊥) where
   low-only-here : LowOnly (b .timers) o
-  low-only-here = low-only (b .timers) (formed-in (b .timers) (z .timed)) three o d c
+  low-only-here = low-only (b .timers) (formed-in (b .timers) (z .timed)) o d c
 
   -- the low half is the whole write
   pub low-whole : (v : ℕ) → v < 2 ^ 64 → turnOf b (setHalf half.Low o (halfOf half.Low v)) ≡ turnOf b (set o v)
   low-whole v g = whole b z half.Low o a l (halfOf half.Low v) v (half-lt half.Low v g) (low-only-here .low (halfOf half.Low v) v refl)
 
   -- the high half changes nothing, bit 6 and the statuses included
-  pub high-nothing : (v : ℕ) → v < 2 ^ 32 → turnOf b (setHalf half.High o v) ≡ turn b ok
-  high-nothing v g =
+  pub high-nothing : Three b → (v : ℕ) → v < 2 ^ 32 → turnOf b (setHalf half.High o v) ≡ turn b ok
+  high-nothing three v g =
       half-sets b z half.High o a l v g
-      ∙ ap (λ (x : Timers). turn (joined (b .controller) x (b .outside)) ok) (low-only-here .high v)
+      ∙ ap (λ (x : Timers). turn (joined (b .controller) x (b .outside)) ok) (low-only-here .high three v)
       ∙ ap (λ (x : Board). turn x ok) (joined-same b z)

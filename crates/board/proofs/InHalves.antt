@@ -76,11 +76,11 @@ module _ (b : Board) (z : Formed b) (h : Half) (v : ℕ) (g : v < 2 ^ 64) where
 
       go : (k : Half) → turnOf (turnOf b (setHalf k o (halfOf k v)) .board) (setHalf (other k) o (halfOf (other k) v)) .board ≡ after
       go half.Low =
-          ap (λ (t : Turn). turnOf (t .board) (setHalf half.High o (halfOf half.High v)) .board) (low-whole b z three o a l d c v g)
-          ∙ ap (λ (t : Turn). t .board) (high-nothing after (keeps b z (set o v)) three-after o a l d c (halfOf half.High v) (half-lt half.High v g))
+          ap (λ (t : Turn). turnOf (t .board) (setHalf half.High o (halfOf half.High v)) .board) (low-whole b z o a l d c v g)
+          ∙ ap (λ (t : Turn). t .board) (high-nothing after (keeps b z (set o v)) o a l d c three-after (halfOf half.High v) (half-lt half.High v g))
       go half.High =
-          ap (λ (t : Turn). turnOf (t .board) (setHalf half.Low o (halfOf half.Low v)) .board) (high-nothing b z three o a l d c (halfOf half.High v) (half-lt half.High v g))
-          ∙ ap (λ (t : Turn). t .board) (low-whole b z three o a l d c v g)
+          ap (λ (t : Turn). turnOf (t .board) (setHalf half.Low o (halfOf half.Low v)) .board) (high-nothing b z o a l d c three (halfOf half.High v) (half-lt half.High v g))
+          ∙ ap (λ (t : Turn). t .board) (low-whole b z o a l d c v g)
 
   in-two-counter : run b (inTwo h 0x0F0 v) ≡ run b (set 0x0F0 v ∷ [])
   unfolding run

@@ -4,8 +4,6 @@ use mathlib.Core.Path.{_≡_, refl, sym, ap, ap₂, _∙_}
 use mathlib.Core.Bool.{Bool, true, false, cond}
 use native.Mathlib.Nat.{mod-eq-of-lt}
 use native.Mathlib.Omega.{arith}
-use native.Mathlib.Decide.{ℕ-discrete}
-use borrow.Author.Tests.{eqb-false}
 use Rattle.timer.specs.declared.Timer.{Timer}
 use Rattle.timer.specs.declared.Half.{Half}
 use Rattle.timer.specs.declared.Half.the-variants as half
@@ -131,50 +129,46 @@ module _ (t : Timer) (w : t .narrow ≡ 1) where
           ∙ ap₂ (λ (x y : ℕ). withSet (withPeriod (withComparator t x) y) 0) (same (flag (t .«set_comparator»)) _ (t .comparator) c) (kept (t .period) (z .period-fits w))
       go false e = once-set t _ _ e ∙ ap₂ (λ (x y : ℕ). withSet (withComparator t x) y) c (unset e)
 
--- ---- in halves without bit 6: the whole write
+-- ---- in halves: where it is the whole write
 
 module _ (t : Timer) (v : ℕ) where
-  -- a number that was set is set again
-  set-again : (x : ℕ) → flag (t .«set_comparator») ≡ false → comparedOf (comparedOf t x) v ≡ comparedOf t v
-  set-again x s = go (flag (t .periodic)) refl
+  -- what a write leaves of the comparator, if the timer is periodic
+  abbrev kept : ℕ → ℕ
+  kept x = cond (flag (t .«set_comparator»)) (reduced (narrowed t) x) (t .comparator)
+
+  -- a first write that leaves the same comparator is as if it had not been
+  set-again : (x : ℕ) → kept x ≡ kept v → comparedOf (comparedOf t x) v ≡ comparedOf t v
+  set-again x k = go (flag (t .periodic)) refl
     where
       go : (b : Bool) → flag (t .periodic) ≡ b → comparedOf (comparedOf t x) v ≡ comparedOf t v
       go true e =
           ap (λ (u : Timer). comparedOf u v) (periodic-set t x x e)
           ∙ periodic-set (periodicSet t x x) v v e
-          ∙ ap (λ (b : Bool). withSet (withPeriod (withComparator t (cond b (reduced (narrowed t) x) (t .comparator))) (reduced (narrowed t) v)) 0) s
-          ∙ sym (ap (λ (b : Bool). withSet (withPeriod (withComparator t (cond b (reduced (narrowed t) v) (t .comparator))) (reduced (narrowed t) v)) 0) s)
+          ∙ ap (λ (y : ℕ). withSet (withPeriod (withComparator t y) (reduced (narrowed t) v)) 0) k
           ∙ sym (periodic-set t v v e)
       go false e =
           ap (λ (u : Timer). comparedOf u v) (once-set t x x e)
           ∙ once-set (onceSet t x x) v v e
           ∙ sym (once-set t v v e)
 
+  -- without bit 6
   pub halves-whole-set : (h : Half) → flag (t .«set_comparator») ≡ false → inHalves t h v ≡ comparedOf t v
-  halves-whole-set h s = halves-set t h v ∙ set-again (first t h v) s
+  halves-whole-set h s = halves-set t h v ∙ set-again (first t h v) (rw s)
 
--- ---- in halves in 32-bit mode, with bit 6 and without
+  module _ (w : t .narrow ≡ 1) where
+    -- in 32-bit mode, with bit 6 and without: low then high
+    pub narrow-low-first : inHalves t half.Low v ≡ comparedOf t v
+    narrow-low-first = halves-set t half.Low v ∙ set-again (first t half.Low v) (ap (λ (y : ℕ). cond (flag (t .«set_comparator»)) y (t .comparator)) low)
+      where
+        low : reduced (narrowed t) (first t half.Low v) ≡ reduced (narrowed t) v
+        low = rw w (low-half (t .comparator))
+          where
+            low-half : (x : ℕ) → replaced half.Low x (halfOf half.Low v) % 2 ^ 32 ≡ v % 2 ^ 32
+            low-half x = omega arith
 
-module _ (t : Timer) (w : t .narrow ≡ 1) (v : ℕ) where
-  -- what is written again is there already
-  same-again : comparedOf (comparedOf t v) v ≡ comparedOf t v
-  same-again = go (flag (t .periodic)) refl
-    where
-      go : (b : Bool) → flag (t .periodic) ≡ b → comparedOf (comparedOf t v) v ≡ comparedOf t v
-      go true e = ap (λ (u : Timer). comparedOf u v) (periodic-set t v v e) ∙ periodic-set (periodicSet t v v) v v e ∙ sym (periodic-set t v v e)
-      go false e = ap (λ (u : Timer). comparedOf u v) (once-set t v v e) ∙ once-set (onceSet t v v) v v e ∙ sym (once-set t v v e)
-
-  -- the whole number, if its low half is the same
-  by-low : (x : ℕ) → x % 2 ^ 32 ≡ v % 2 ^ 32 → comparedOf t x ≡ comparedOf t v
-  by-low x e = set-reduced t x x v v (rw w e) (rw w e)
-
-  -- low then high is the whole write
-  pub narrow-low-first : inHalves t half.Low v ≡ comparedOf t v
-  narrow-low-first = halves-set t half.Low v ∙ ap (λ (u : Timer). comparedOf u v) (by-low (first t half.Low v) (omega arith)) ∙ same-again
-
-  -- high then low sets the period only: the comparator is set to what it is
-  pub narrow-high-first : inHalves t half.High v ≡ comparedOf (comparedOf t (t .comparator)) v
-  narrow-high-first = halves-set t half.High v ∙ ap (λ (u : Timer). comparedOf u v) (set-reduced t _ _ (t .comparator) (t .comparator) same same)
-    where
-      same : reduced (narrowed t) (first t half.High v) ≡ reduced (narrowed t) (t .comparator)
-      same = rw w (reduced-high (t .comparator) (halfOf half.High v))
+    -- high then low sets the period only: the comparator is set to what it is
+    pub narrow-high-first : inHalves t half.High v ≡ comparedOf (comparedOf t (t .comparator)) v
+    narrow-high-first = halves-set t half.High v ∙ ap (λ (u : Timer). comparedOf u v) (set-reduced t _ _ (t .comparator) (t .comparator) same same)
+      where
+        same : reduced (narrowed t) (first t half.High v) ≡ reduced (narrowed t) (t .comparator)
+        same = rw w (reduced-high (t .comparator) (halfOf half.High v))

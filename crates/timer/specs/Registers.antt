@@ -55,8 +55,8 @@ setOf t comparator period =
 abbrev pub comparedOf : Timer → ℕ → Timer
 comparedOf t v = setOf t v v
 
--- a half: replaced in whatever the whole write would set, comparator, period or both. Bit 6 clears at the first half, since each is a write; a high half in 32-bit
--- mode stores 0, since the number with that half replaced is reduced
+-- a half: replaced in whatever the whole write would set, comparator, period or both. Bit 6 clears at the first half,
+-- since each is a write; a high half in 32-bit mode stores 0, since the number with that half replaced is reduced
 abbrev pub halfComparedOf : Timer → Half → ℕ → Timer
 halfComparedOf t h v = setOf t (replaced h (t .comparator) v) (replaced h (t .period) v)
 

@@ -19,46 +19,33 @@ use Rattle.timers.proofs.Stored.{at-comparator, half-comparator, half-f
 
 -- ---- where the halves of a register lie
 
-module _ (h : Half) (o : ℕ) (a : o % 8 ≡ 0) where
-  half-at : halfAt (placeOf h o) ≡ h
-  half-at = go h
-    where
-      go : (k : Half) → halfAt (placeOf k o) ≡ k
-      go half.Low = rw (eq-eqb (o % 8) 0 a)
-      go half.High = rw (ne-eqb ((o + 4) % 8) 0 (λ q. omega arith))
+half-at : (h : Half) (o : ℕ) → o % 8 ≡ 0 → halfAt (placeOf h o) ≡ h
+half-at half.Low o a = rw (eq-eqb (o % 8) 0 a)
+half-at half.High o a = rw (ne-eqb ((o + 4) % 8) 0 (λ q. omega arith))
 
-  whole-at : wholeAt (placeOf h o) ≡ o
-  whole-at = go h
-    where
-      go : (k : Half) → wholeAt (placeOf k o) ≡ o
-      go half.Low = omega arith
-      go half.High = omega arith
+whole-at : (h : Half) (o : ℕ) → o % 8 ≡ 0 → wholeAt (placeOf h o) ≡ o
+whole-at half.Low o a = omega arith
+whole-at half.High o a = omega arith
 
-  place-aligned : aligned 4 (placeOf h o) ≡ true
-  place-aligned = go h
-    where
-      go : (k : Half) → aligned 4 (placeOf k o) ≡ true
-      go half.Low = eq-eqb (o % 4) 0 (omega arith)
-      go half.High = eq-eqb ((o + 4) % 4) 0 (omega arith)
+place-aligned : (h : Half) (o : ℕ) → o % 8 ≡ 0 → aligned 4 (placeOf h o) ≡ true
+place-aligned half.Low o a = eq-eqb (o % 4) 0 (omega arith)
+place-aligned half.High o a = eq-eqb ((o + 4) % 4) 0 (omega arith)
 
-  place-inside : o < 0x400 → placeOf h o < 0x400
-  place-inside l = go h
-    where
-      go : (k : Half) → placeOf k o < 0x400
-      go half.Low = l
-      go half.High = omega arith
+place-inside : (h : Half) (o : ℕ) → o % 8 ≡ 0 → o < 0x400 → placeOf h o < 0x400
+place-inside half.Low o a l = l
+place-inside half.High o a l = omega arith
 
-  module _ (s : Timers) (l : o < 0x400) where
-    -- "A half read gives that half of the 8-byte value."
-    pub half-reads : readingOf s 4 (placeOf h o) ≡ turn s (answer.Value (halfOf h (registerOf s o)))
-    half-reads =
-        reading-done s 4 (placeOf h o) place-aligned (place-inside l)
-        ∙ ap (λ (v : ℕ). turn s (answer.Value v)) (shown-half s 4 (placeOf h o) (λ q. omega arith) ∙ (λ i. halfOf (half-at i) (registerOf s (whole-at i))))
+module _ (h : Half) (o : ℕ) (a : o % 8 ≡ 0) (s : Timers) (l : o < 0x400) where
+  -- "A half read gives that half of the 8-byte value."
+  pub half-reads : readingOf s 4 (placeOf h o) ≡ turn s (answer.Value (halfOf h (registerOf s o)))
+  half-reads =
+      reading-done s 4 (placeOf h o) (place-aligned h o a) (place-inside h o a l)
+      ∙ ap (λ (v : ℕ). turn s (answer.Value v)) (shown-half s 4 (placeOf h o) (λ q. omega arith) ∙ (λ i. halfOf (half-at h o a i) (registerOf s (whole-at h o a i))))
 
-    pub half-writes : (v : ℕ) → v < 2 ^ 32 → writingOf s 4 (placeOf h o) v ≡ turn (halfWritten s h o v) answer.Done
-    half-writes v g =
-        writing-done s 4 (placeOf h o) v place-aligned (place-inside l) (lt-ltb v (2 ^ 32) g)
-        ∙ ap (λ (r : Timers). turn r answer.Done) (stored-half s 4 (placeOf h o) v (λ q. omega arith) ∙ (λ i. halfWritten s (half-at i) (whole-at i) v))
+  pub half-writes : (v : ℕ) → v < 2 ^ 32 → writingOf s 4 (placeOf h o) v ≡ turn (halfWritten s h o v) answer.Done
+  half-writes v g =
+      writing-done s 4 (placeOf h o) v (place-aligned h o a) (place-inside h o a l) (lt-ltb v (2 ^ 32) g)
+      ∙ ap (λ (r : Timers). turn r answer.Done) (stored-half s 4 (placeOf h o) v (λ q. omega arith) ∙ (λ i. halfWritten s (half-at h o a i) (whole-at h o a i) v))
 
 -- ---- which register it is
 

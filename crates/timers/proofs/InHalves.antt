@@ -41,14 +41,14 @@ with-with s n x y = ap (withList s) (three-same _ _ (λ i l. ap (cond (eqb i n) 
 abbrev pub inHalves : Timers → Half → ℕ → ℕ → Timers
 inHalves s h o v = halfWritten (halfWritten s h o (halfOf h v)) (other h) o (halfOf (other h) v)
 
-module _ (s : Timers) (h : Half) (v : ℕ) where
-  -- a write to a half of the counter, while enabled and while not
-  half-counts : (s : Timers) (k : Half) (x : ℕ) → halfWritten s k 0x0F0 x ≡ cond (isEnabled s) s (withCounter s (replaced k (s .counter) x))
-  half-counts s k x =
-      half-replaces s k x 0x0F0 (λ q. omega arith) (λ n l q. omega arith)
-      ∙ write-counter s 0x0F0 _ refl
-      ∙ ap (λ (c : ℕ). cond (isEnabled s) s (withCounter s (replaced k c x))) (read-counter s 0x0F0 refl)
+-- a write to a half of the counter, while enabled and while not
+half-counts : (s : Timers) (k : Half) (x : ℕ) → halfWritten s k 0x0F0 x ≡ cond (isEnabled s) s (withCounter s (replaced k (s .counter) x))
+half-counts s k x =
+    half-replaces s k x 0x0F0 (λ q. omega arith) (λ n l q. omega arith)
+    ∙ write-counter s 0x0F0 _ refl
+    ∙ ap (λ (c : ℕ). cond (isEnabled s) s (withCounter s (replaced k c x))) (read-counter s 0x0F0 refl)
 
+module _ (s : Timers) (h : Half) (v : ℕ) where
   pub counter-in-halves : inHalves s h 0x0F0 v ≡ writtenOf s 0x0F0 v
   counter-in-halves =
       ap (λ (r : Timers). halfWritten r (other h) 0x0F0 (halfOf (other h) v)) (half-counts s h (halfOf h v))
@@ -116,14 +116,14 @@ module _ (s : Timers) (n : ℕ) (l : n < 3) (w : at s n .narrow ≡ 1) where
 
   -- low then high is the whole write; high then low sets the period only
   pub comparator-narrow-low-first : (v : ℕ) → inHalves s half.Low (0x108 + 0x20 * n) v ≡ writtenOf s (0x108 + 0x20 * n) v
-  comparator-narrow-low-first v = by-timer s half.Low v n l ∙ ap (withTimer s n) (narrow-low-first (at s n) w v) ∙ sym (comparator-write n l s v)
+  comparator-narrow-low-first v = by-timer s half.Low v n l ∙ ap (withTimer s n) (narrow-low-first (at s n) v w) ∙ sym (comparator-write n l s v)
 
   pub comparator-narrow-high-first :
       (v : ℕ) →
       inHalves s half.High (0x108 + 0x20 * n) v ≡ writtenOf (writtenOf s (0x108 + 0x20 * n) (registerOf s (0x108 + 0x20 * n))) (0x108 + 0x20 * n) v
   comparator-narrow-high-first v =
       by-timer s half.High v n l
-      ∙ ap (withTimer s n) (narrow-high-first (at s n) w v)
+      ∙ ap (withTimer s n) (narrow-high-first (at s n) v w)
       ∙ sym (whole-twice s half.High v n l (at s n .comparator))
       ∙ ap (λ (c : ℕ). writtenOf (writtenOf s (0x108 + 0x20 * n) c) (0x108 + 0x20 * n) v) (sym (comparator-read n l s))
 

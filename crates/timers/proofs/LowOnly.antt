@@ -33,10 +33,10 @@ with-same s size n = ap (withList s) (three-same _ (at s) (λ i l. go i (eqb i n
 
 -- ---- registers whose low half is all that can be written
 
--- v is the low half of w: the low half alone is the whole write, the high half changes nothing
+-- v is the low half of w: the low half alone is the whole write, the high half changes nothing (of a block that has its three timers)
 pub record LowOnly (s : Timers) (o : ℕ) : Type 0 where
   pub low : (v w : ℕ) → v ≡ halfOf half.Low w → halfWritten s half.Low o v ≡ writtenOf s o w
-  pub high : (v : ℕ) → halfWritten s half.High o v ≡ s
+  pub high : length (s .timer) ≡ 3 → (v : ℕ) → halfWritten s half.High o v ≡ s
 
 low-bit : (k q v w : ℕ) → k < 3 → v ≡ halfOf half.Low w → bit k (q * 2 ^ 32 + v) ≡ bit k w
 low-bit zero q v w l e = omega arith
@@ -59,7 +59,7 @@ module _ (s : Timers) (z : Formed s) where
             ∙ write-enabled s 0x010 _ refl
             ∙ ap (withEnabled s) (low-bit 0 (registerOf s 0x010 / 2 ^ 32) v w (omega arith) e)
             ∙ sym (write-enabled s 0x010 w refl);
-        high = λ v. half-replaces s half.High v 0x010 (λ q. omega arith) (λ n l q. omega arith)
+        high = λ size v. half-replaces s half.High v 0x010 (λ q. omega arith) (λ n l q. omega arith)
             ∙ write-enabled s 0x010 _ refl
             ∙ ap (λ (x : ℕ). withEnabled s (bit 0 (v * 2 ^ 32 + x % 2 ^ 32))) (read-enabled s 0x010 refl ∙ flag-is (s .enabled) (omega (arith, z .enabled-bit)))
             ∙ ap (withEnabled s) (same (s .enabled) v (z .enabled-bit));
@@ -68,58 +68,57 @@ module _ (s : Timers) (z : Formed s) where
       same : (x v : ℕ) → x ≤ 1 → bit 0 (v * 2 ^ 32 + x % 2 ^ 32) ≡ x
       same x v l = omega arith
 
-  module _ (size : length (s .timer) ≡ 3) where
-    -- 0x020
-    status-low-only : LowOnly s 0x020
-    status-low-only =
-        record {
-          low = λ v w e. half-status s half.Low v
-              ∙ write-status s 0x020 _ refl
-              ∙ ap (λ (l : List Timer). withList s l)
-              (three-same _ _ (λ m l. ap (λ (x : ℕ). cond (flag x) (clearedOf (at s m)) (at s m)) (low-bit m 0 v w l e)))
-              ∙ sym (write-status s 0x020 w refl);
-          high = λ v. half-status s half.High v
-              ∙ write-status s 0x020 _ refl
-              ∙ ap (λ (l : List Timer). withList s l)
-              (three-same _ (at s) (λ m l. ap (λ (x : ℕ). cond (flag x) (clearedOf (at s m)) (at s m)) (no-bit m v l)))
-              ∙ sym (eta s size);
-        }
+  -- 0x020
+  status-low-only : LowOnly s 0x020
+  status-low-only =
+      record {
+        low = λ v w e. half-status s half.Low v
+            ∙ write-status s 0x020 _ refl
+            ∙ ap (λ (l : List Timer). withList s l)
+            (three-same _ _ (λ m l. ap (λ (x : ℕ). cond (flag x) (clearedOf (at s m)) (at s m)) (low-bit m 0 v w l e)))
+            ∙ sym (write-status s 0x020 w refl);
+        high = λ size v. half-status s half.High v
+            ∙ write-status s 0x020 _ refl
+            ∙ ap (λ (l : List Timer). withList s l)
+            (three-same _ (at s) (λ m l. ap (λ (x : ℕ). cond (flag x) (clearedOf (at s m)) (at s m)) (no-bit m v l)))
+            ∙ sym (eta s size);
+      }
 
-    -- a timer's configuration
-    configuration-low-only : (n : ℕ) → n < 3 → LowOnly s (0x100 + 0x20 * n)
-    configuration-low-only n l =
-        record {
-          low = λ v w e. half-replaces s half.Low v (0x100 + 0x20 * n) (λ q. omega arith) (λ m g q. omega arith)
-              ∙ configuration-write n l s _
-              ∙ ap (withTimer s n) (configured-low (at s n) (registerOf s (0x100 + 0x20 * n)) v w e)
-              ∙ sym (configuration-write n l s w);
-          high = λ v. half-replaces s half.High v (0x100 + 0x20 * n) (λ q. omega arith) (λ m g q. omega arith)
-              ∙ configuration-write n l s _
-              ∙ ap (λ (x : ℕ). withTimer s n (configuredOf (at s n) (replaced half.High x v))) (configuration-read n l s)
-              ∙ ap (withTimer s n) (configured-high (at s n) (z .each n l) v)
-              ∙ with-same s size n;
-        }
+  -- a timer's configuration
+  configuration-low-only : (n : ℕ) → n < 3 → LowOnly s (0x100 + 0x20 * n)
+  configuration-low-only n l =
+      record {
+        low = λ v w e. half-replaces s half.Low v (0x100 + 0x20 * n) (λ q. omega arith) (λ m g q. omega arith)
+            ∙ configuration-write n l s _
+            ∙ ap (withTimer s n) (configured-low (at s n) (registerOf s (0x100 + 0x20 * n)) v w e)
+            ∙ sym (configuration-write n l s w);
+        high = λ size v. half-replaces s half.High v (0x100 + 0x20 * n) (λ q. omega arith) (λ m g q. omega arith)
+            ∙ configuration-write n l s _
+            ∙ ap (λ (x : ℕ). withTimer s n (configuredOf (at s n) (replaced half.High x v))) (configuration-read n l s)
+            ∙ ap (withTimer s n) (configured-high (at s n) (z .each n l) v)
+            ∙ with-same s size n;
+      }
 
-    -- read-only and unlisted offsets
-    ignored-low-only : (o : ℕ) → (o ≡ 0x020 → ⊥) → ((n : ℕ) → n < 3 → o ≡ 0x108 + 0x20 * n → ⊥) → ((v : ℕ) → writtenOf s o v ≡ s) → LowOnly s o
-    ignored-low-only o d c i =
-        record {
-          low = λ v w e. half-replaces s half.Low v o d c ∙ i _ ∙ sym (i w);
-          high = λ v. half-replaces s half.High v o d c ∙ i _;
-        }
+  -- read-only and unlisted offsets
+  ignored-low-only : (o : ℕ) → (o ≡ 0x020 → ⊥) → ((n : ℕ) → n < 3 → o ≡ 0x108 + 0x20 * n → ⊥) → ((v : ℕ) → writtenOf s o v ≡ s) → LowOnly s o
+  ignored-low-only o d c i =
+      record {
+        low = λ v w e. half-replaces s half.Low v o d c ∙ i _ ∙ sym (i w);
+        high = λ size v. half-replaces s half.High v o d c ∙ i _;
+      }
 
-    -- all but the counter and the comparators
-    pub low-only : (o : ℕ) → (o ≡ 0x0F0 → ⊥) → ((n : ℕ) → n < 3 → o ≡ 0x108 + 0x20 * n → ⊥) → LowOnly s o
-    low-only o d c = go (place o)
-      where
-        go : Place o → LowOnly s o
-        go (capabilities e) = subst (LowOnly s) (sym e) (ignored-low-only 0x000 (λ q. omega arith) (λ n l q. omega arith) (capabilities-write s))
-        go (enable e) = subst (LowOnly s) (sym e) enable-low-only
-        go (status e) = subst (LowOnly s) (sym e) status-low-only
-        go (counter e) = absurd (d e)
-        go (configuration n l e) = subst (LowOnly s) (sym e) (configuration-low-only n l)
-        go (comparator n l e) = absurd (c n l e)
-        go (unlisted u) = ignored-low-only o (u .no-status) c (unlisted-write s o u)
+  -- all but the counter and the comparators
+  pub low-only : (o : ℕ) → (o ≡ 0x0F0 → ⊥) → ((n : ℕ) → n < 3 → o ≡ 0x108 + 0x20 * n → ⊥) → LowOnly s o
+  low-only o d c = go (place o)
+    where
+      go : Place o → LowOnly s o
+      go (capabilities e) = subst (LowOnly s) (sym e) (ignored-low-only 0x000 (λ q. omega arith) (λ n l q. omega arith) (capabilities-write s))
+      go (enable e) = subst (LowOnly s) (sym e) enable-low-only
+      go (status e) = subst (LowOnly s) (sym e) status-low-only
+      go (counter e) = absurd (d e)
+      go (configuration n l e) = subst (LowOnly s) (sym e) (configuration-low-only n l)
+      go (comparator n l e) = absurd (c n l e)
+      go (unlisted u) = ignored-low-only o (u .no-status) c (unlisted-write s o u)
 
 -- a write leaves three timers
 pub written-three : (s : Timers) (o v : ℕ) → length (s .timer) ≡ 3 → length (writtenOf s o v .timer) ≡ 3

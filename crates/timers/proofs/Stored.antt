@@ -13,7 +13,7 @@ use Rattle.timers.specs.declared.Timers.{Timers}
 use Rattle.timers.specs.State.{at, withTimer}
 use Rattle.timers.specs.Registers.{aligned, fits, numbered, ofTimer, isComparator, registerOf, writtenOf, halfAt, wholeAt, filled, halfWritten, shownOf, storedOf}
 use Rattle.timers.specs.Inner.{besideOf, filledBy}
-use Rattle.timers.proofs.Access.{aligned-whole, read-enabled, read-counter, shown-whole, stored-whole, stored-half}
+use Rattle.timers.proofs.Access.{aligned-whole, aligned-half, read-enabled, read-counter, shown-whole, stored-whole, stored-half}
 use Rattle.timers.proofs.Places.{Place, capabilities, enable, status, counter, configuration, comparator, unlisted, place, configuration-read, unlisted-write, capabilities-write}
 
 -- at width 8 the register stands at the offset
@@ -24,8 +24,11 @@ pub shown-here : (s : Timers) (w o : ℕ) → aligned w o ≡ true → w ≡ 8 �
 shown-here s w o a e = ap (registerOf s) (whole-here w o a e) ∙ sym (shown-whole s w o e)
 
 -- what fits and is not 8 bytes wide fits in four
-pub fits-half : (w v : ℕ) → fits w v ≡ true → (w ≡ 8 → ⊥) → v < 2 ^ 32
-fits-half w v f n = ltb-true v (2 ^ 32) (sym (ap (λ (b : Bool). b || ltb v (2 ^ 32)) (ne-eqb w 8 n)) ∙ f)
+pub fits-half : (w o v : ℕ) → aligned w o ≡ true → fits w v ≡ true → (w ≡ 8 → ⊥) → v < 2 ^ 32
+fits-half w o v a f n = ltb-true v (2 ^ 32) (sym (ap (λ (b : Bool). not b || ltb v (2 ^ 32)) four) ∙ f)
+  where
+    four : eqb w 4 ≡ true
+    four = and-left (eqb w 4) (eqb (o % 4) 0) (sym (aligned-half w o n) ∙ a)
 
 -- an access that is not 8 bytes wide, and something more
 pub not-whole : (w : ℕ) (b : Bool) → (not (eqb w 8) && b) ≡ true → w ≡ 8 → ⊥

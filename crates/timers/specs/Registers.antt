@@ -1,6 +1,6 @@
 -- "Timer registers": what each offset reads, and what a write to it does.
 use Prim.Native.Nat.{ℕ, _+_, _-_, _/_, _%_, _^_}
-use mathlib.Core.Bool.{Bool, cond, _&&_, _||_}
+use mathlib.Core.Bool.{Bool, cond, not, _&&_, _||_}
 use lib.Dec.{eqb, leb, ltb}
 use mir.Val.{boolByte}
 use Rattle.timer.specs.declared.Timer.{Timer}
@@ -22,9 +22,9 @@ aligned width offset = (eqb width 4 || eqb width 8) && eqb (offset % width) 0
 abbrev pub inside : ℕ → Bool
 inside offset = ltb offset 0x400
 
--- a 4-byte write takes a value of at most 4,294,967,295; an access that is aligned has 4 bytes or 8
+-- a 4-byte write takes a value of at most 4,294,967,295
 abbrev pub fits : ℕ → ℕ → Bool
-fits width value = eqb width 8 || ltb value (2 ^ 32)
+fits width value = not (eqb width 4) || ltb value (2 ^ 32)
 
 -- ---- the timers' registers
 

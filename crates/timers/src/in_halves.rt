@@ -1,6 +1,6 @@
 // The window four bytes at a time: a half of a register by the rule for the whole one.
 ghost use mathlib.Core.Path.{_≡_};
-ghost use Prim.Native.Nat.{_≤_};
+ghost use Prim.Native.Nat.{_^_, _≤_, _<_};
 ghost use mathlib.Core.Bool.{true, cond, _&&_};
 ghost use lib.Dec.{eqb};
 ghost use Rattle.timer.specs.Registers.{halfComparedOf};
@@ -72,7 +72,7 @@ impl Timers {
 
     // The number that a write of either width gives to that rule.
     fn given(self, width: u64, half: Half, offset: u64, value: u64) -> u64
-        requires { ⌜ fits width value ≡ true ⌝ }
+        requires { ⌜ ((width ≡ 8 → ⊥) → value < 2 ^ 32) ⌝ }
         ensures { λ r. ⌜ r ≡ cond (eqb width 8) value (filledBy self half offset value) ⌝ }
     {
         if width == Timers::WIDTH {

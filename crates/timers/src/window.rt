@@ -162,7 +162,7 @@ impl Timers {
     fn fits(width: u64, value: u64) -> bool
         ensures { λ r. ⌜ r ≡ fits width value ⌝ }
     {
-        (width == Timers::WIDTH) | (value < Timers::VALUE_END)
+        (width != Timers::HALF_WIDTH) | (value < Timers::VALUE_END)
     }
 
     pub fn reading(self, width: u64, offset: u64) -> Turn

@@ -1,6 +1,5 @@
 use native.Mathlib.Omega.{arith}
 use borrow.Author.Tests.{eq-eqb, ne-eqb}
-use Rattle.timers.proofs.Stored.{fits-half}
 use borrow.Author.Needs.{needs}
 use Rattle.timers.proofs.Timers.given.Statement.{statement}
 use Rattle.timers.proofs.Timers.given.Tie as tie
@@ -12,8 +11,7 @@ returns : tie.Need-returns
 returns c = rw (eq-eqb _ _ (c .if1 .taken))
 
 cast-filled : tie.Need-cast-filled
-cast-filled c = let s = c .before in
-    omega (arith, fits-half (s .args .width) (s .args .value) (s .pre) (c .if1 .left))
+cast-filled c = omega (arith, c .before .pre (c .if1 .left))
 
 filled-requires : tie.Need-filled-requires
 filled-requires c κs = search needs

@@ -39,7 +39,7 @@ is-comparator-requires c κs = search needs
 cast-half-compared : tie.Need-cast-half-compared
 cast-half-compared c = let e = c .before in
     let s = e .before .before .before in
-    omega (arith, fits-half (s .args .width) (s .args .value) (s .pre .1) (not-whole (s .args .width) _ (c .if1 .taken)))
+    omega (arith, fits-half (s .args .width) (s .args .offset) (s .args .value) (s .pre .0) (s .pre .1) (not-whole (s .args .width) _ (c .if1 .taken)))
 
 half-compared-requires : tie.Need-half-compared-requires
 half-compared-requires c κs = let e = c .before in
@@ -58,7 +58,8 @@ returns c = let e = c .before in
     ∙ sym (stored-comparator (a .self) (a .width) (a .offset) (a .value) (not-whole (a .width) _ (e .if1 .taken)) (ap (λ (p : ℕ). ofTimer p && isComparator p) (sym (c1 .whole-at .ensures)) ∙ is))
 
 given-requires : tie.Need-given-requires
-given-requires c κs = search needs
+given-requires c κs = let s = c .before .before .before .before in
+    fits-half (s .args .width) (s .args .offset) (s .args .value) (s .pre .0) (s .pre .1)
 
 written-requires : tie.Need-written-requires
 written-requires c κs = search needs
