@@ -7,12 +7,14 @@ use lib.ListN.{length}
 use Rattle.answers.specs.Sheet.{ok, value}
 use Rattle.timer.specs.declared.Half.{Half}
 use Rattle.timer.specs.declared.Half.the-variants as half
+use Rattle.timer.specs.State.{withPeriod, withSet}
 use Rattle.timer.specs.Halves.{halfOf, replaced}
 use Rattle.timer.proofs.Halves.{other, half-lt}
 use Rattle.timers.specs.declared.Timers.{Timers}
-use Rattle.timers.specs.State.{at}
+use Rattle.timers.specs.State.{at, withTimer}
 use Rattle.timers.specs.Registers.{registerOf, writtenOf, halfWritten}
 use Rattle.timers.specs.Tick.{drivesOf}
+use Rattle.timers.proofs.Formed.{formed-in}
 use Rattle.timers.proofs.Halves as Timed
 use Rattle.timers.proofs.Places.{Place, capabilities, enable, status, counter, configuration, comparator, unlisted, place}
 use Rattle.timers.proofs.LowOnly.{written-three}
@@ -141,14 +143,15 @@ module _ (b : Board) (z : Formed b) (v n k : ℕ) (g : v < 2 ^ 64) (l : n < 3) (
       ∙ ap (λ (x : Timers). joined (b .controller) x (b .outside)) (comparator-narrow-low-first (b .timers) n l narrow-here v)
       ∙ sym (set-joins (Accesses.comparator n) v (omega arith) (omega arith) b z)
 
-  -- high then low, with bit 6: the comparator is set to what it reads, and then the number is the period only
+  -- high then low, periodic, sets the period only, to the low half; bit 6 is cleared
   pub narrow-high-first :
-      (r : ℕ) → register b (Accesses.comparator n) ≡ value r → run b (inTwo half.High (Accesses.comparator n) v) ≡ run b (set (Accesses.comparator n) r ∷ set (Accesses.comparator n) v ∷ [])
-  narrow-high-first r q =
+      k / 2 ^ 3 % 2 ≡ 1 →
+      run b (inTwo half.High (Accesses.comparator n) v) ≡ board (b .controller) (withTimer (b .timers) n (withSet (withPeriod (at (b .timers) n) (v % 2 ^ 32)) 0)) (b .outside)
+  narrow-high-first p =
       by-halves b z half.High v g n l
-      ∙ ap (λ (x : Timers). joined (b .controller) x (b .outside)) (comparator-narrow-high-first (b .timers) n l narrow-here v)
-      ∙ sym (whole-then b z half.High v g n l (registerOf (b .timers) (Accesses.comparator n)))
-      ∙ ap (λ (x : ℕ). run b (set (Accesses.comparator n) x ∷ set (Accesses.comparator n) v ∷ [])) (shown-is b z (Accesses.comparator n) (omega arith) (omega arith) r q)
+      ∙ joined-still b z _ (λ q. half-comparator-drives _ q n l half.Low _ ∙ half-comparator-drives (b .timers) q n l half.High _)
+      ∙ ap (λ (x : Timers). board (b .controller) x (b .outside))
+      (comparator-narrow-high-first (b .timers) n l narrow-here (formed-in (b .timers) (z .timed)) (sym (bits b z n k l e .periodic) ∙ p) v)
 
 -- ---- every register, whichever half comes first
 

@@ -155,20 +155,21 @@ module _ (t : Timer) (v : ℕ) where
   pub halves-whole-set : (h : Half) → flag (t .«set_comparator») ≡ false → inHalves t h v ≡ comparedOf t v
   halves-whole-set h s = halves-set t h v ∙ set-again (first t h v) (rw s)
 
-  module _ (w : t .narrow ≡ 1) where
-    -- in 32-bit mode, with bit 6 and without: low then high
-    pub narrow-low-first : inHalves t half.Low v ≡ comparedOf t v
-    narrow-low-first = halves-set t half.Low v ∙ set-again (first t half.Low v) (ap (λ (y : ℕ). cond (flag (t .«set_comparator»)) y (t .comparator)) low)
-      where
-        low : reduced (narrowed t) (first t half.Low v) ≡ reduced (narrowed t) v
-        low = rw w (low-half (t .comparator))
-          where
-            low-half : (x : ℕ) → replaced half.Low x (halfOf half.Low v) % 2 ^ 32 ≡ v % 2 ^ 32
-            low-half x = omega arith
+  -- ---- in 32-bit mode, with bit 6 and without
 
-    -- high then low sets the period only: the comparator is set to what it is
-    pub narrow-high-first : inHalves t half.High v ≡ comparedOf (comparedOf t (t .comparator)) v
-    narrow-high-first = halves-set t half.High v ∙ ap (λ (u : Timer). comparedOf u v) (set-reduced t _ _ (t .comparator) (t .comparator) same same)
-      where
-        same : reduced (narrowed t) (first t half.High v) ≡ reduced (narrowed t) (t .comparator)
-        same = rw w (reduced-high (t .comparator) (halfOf half.High v))
+  module _ (w : t .narrow ≡ 1) where
+    low-half : (x : ℕ) → reduced (narrowed t) (replaced half.Low x (halfOf half.Low v)) ≡ v % 2 ^ 32
+    low-half x = rw w (reduced-low x (halfOf half.Low v) (omega arith))
+
+    -- low then high
+    pub narrow-low-first : inHalves t half.Low v ≡ comparedOf t v
+    narrow-low-first =
+        halves-set t half.Low v
+        ∙ set-again (first t half.Low v) (ap (λ (y : ℕ). cond (flag (t .«set_comparator»)) y (t .comparator)) (low-half (t .comparator) ∙ sym (rw w refl)))
+
+    -- high then low, periodic: the period only
+    pub narrow-high-first : Formed t → flag (t .periodic) ≡ true → inHalves t half.High v ≡ withSet (withPeriod t (v % 2 ^ 32)) 0
+    narrow-high-first z e =
+        ap (λ (u : Timer). halfComparedOf u half.Low (halfOf half.Low v)) (narrow-high t w z (halfOf half.High v))
+        ∙ periodic-set (withSet t 0) _ _ e
+        ∙ ap (λ (y : ℕ). withSet (withPeriod t y) 0) (low-half (t .period))

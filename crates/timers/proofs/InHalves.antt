@@ -8,7 +8,7 @@ use borrow.Author.Tests.{eqb-true}
 use Rattle.timer.specs.declared.Timer.{Timer}
 use Rattle.timer.specs.declared.Half.{Half}
 use Rattle.timer.specs.declared.Half.the-variants as half
-use Rattle.timer.specs.State.{flag, withSet}
+use Rattle.timer.specs.State.{flag, withPeriod, withSet}
 use Rattle.timer.specs.Halves.{halfOf, replaced}
 use Rattle.timer.specs.Registers.{configurationOf, setOf, comparedOf, halfComparedOf}
 use Rattle.timer.specs.Tick.{driving}
@@ -114,18 +114,13 @@ module _ (s : Timers) (n : ℕ) (l : n < 3) (w : at s n .narrow ≡ 1) where
   pub comparator-narrow-high : Formed s → (v : ℕ) → halfWritten s half.High (0x108 + 0x20 * n) v ≡ withTimer s n (withSet (at s n) 0)
   comparator-narrow-high z v = half-compares s half.High v n l ∙ ap (withTimer s n) (narrow-high (at s n) w (z .each n l) v)
 
-  -- low then high is the whole write; high then low sets the period only
+  -- low then high is the whole write; high then low, periodic, sets the period only
   pub comparator-narrow-low-first : (v : ℕ) → inHalves s half.Low (0x108 + 0x20 * n) v ≡ writtenOf s (0x108 + 0x20 * n) v
   comparator-narrow-low-first v = by-timer s half.Low v n l ∙ ap (withTimer s n) (narrow-low-first (at s n) v w) ∙ sym (comparator-write n l s v)
 
   pub comparator-narrow-high-first :
-      (v : ℕ) →
-      inHalves s half.High (0x108 + 0x20 * n) v ≡ writtenOf (writtenOf s (0x108 + 0x20 * n) (registerOf s (0x108 + 0x20 * n))) (0x108 + 0x20 * n) v
-  comparator-narrow-high-first v =
-      by-timer s half.High v n l
-      ∙ ap (withTimer s n) (narrow-high-first (at s n) v w)
-      ∙ sym (whole-twice s half.High v n l (at s n .comparator))
-      ∙ ap (λ (c : ℕ). writtenOf (writtenOf s (0x108 + 0x20 * n) c) (0x108 + 0x20 * n) v) (sym (comparator-read n l s))
+      Formed s → at s n .periodic ≡ 1 → (v : ℕ) → inHalves s half.High (0x108 + 0x20 * n) v ≡ withTimer s n (withSet (withPeriod (at s n) (v % 2 ^ 32)) 0)
+  comparator-narrow-high-first z e v = by-timer s half.High v n l ∙ ap (withTimer s n) (narrow-high-first (at s n) v w (z .each n l) (ap flag e))
 
 -- ---- one half of a comparator
 
