@@ -6,10 +6,12 @@ use Rattle.timers.proofs.Timers.aligned.Reads as reads
 use Rattle.timers.proofs.Timers.aligned.Lts as lts
 
 returns : tie.Need-returns
-returns c = sym (aligned-whole _ _ (c .if1 .taken))
+returns c = let a = c .before .args in
+    sym (aligned-whole (a .width) (a .offset) (c .if1 .taken))
 
 returns-2 : tie.Need-returns-2
-returns-2 c = sym (aligned-half _ _ (c .if1 .left))
+returns-2 c = let a = c .before .args in
+    sym (aligned-half (a .width) (a .offset) (c .if1 .left))
 
 pub aligned-spec : {M : Type 1} → statement M
 aligned-spec = tie.close (tie.spec returns returns-2)
