@@ -1,7 +1,26 @@
 """What a record of an event log means, in words: for make.py."""
 
+WINDOWS = {0: "controller", 1: "timers"}
+WIDTHS = {0: (4,), 1: (4, 8)}
 REGISTERS = {0x000: "capabilities", 0x010: "configuration", 0x020: "status", 0x0F0: "main counter"}
 INDEXES = {0x00: "id", 0x01: "version", 0x02: "arbitration"}
+
+
+# ---- where an access goes
+
+
+def disallowed(window, width, offset):
+    """Why the board refuses an access at this place, or None. The tests are in the board's order."""
+    place = f"offset 0x{offset:0{3 if window == 1 else 2}x}"
+    if window not in WINDOWS:
+        return f"width {width}, {place}"
+    if width not in WIDTHS[window]:
+        return f"width {width}, which isn't allowed, {place}"
+    if window == 1 and offset % width:
+        return f"width {width}, {place}, no multiple of {width}"
+    if window == 1 and offset >= 0x400:
+        return f"{place}, beyond the timers"
+    return f"{place}, no register" if window == 0 and offset not in (0x00, 0x10) else None
 
 
 def indexed(index):
@@ -11,21 +30,31 @@ def indexed(index):
     return INDEXES.get(index, f"index 0x{index:02x}, no register")
 
 
-def of_timer(offset):
+def of_timer(whole):
     """The number of the timer that has a register at this offset, and whether that is its comparator."""
-    inside = 0x100 <= offset < 0x160 and offset % 0x20 in (0, 8)
-    return ((offset - 0x100) // 0x20, offset % 0x20 == 8) if inside else None
+    inside = 0x100 <= whole < 0x160 and whole % 0x20 in (0, 8)
+    return ((whole - 0x100) // 0x20, whole % 0x20 == 8) if inside else None
 
 
-def register(window, offset, index):
+def of_timers(whole):
+    """The timers' register at this offset, or None."""
+    timer = of_timer(whole)
+    if timer:
+        return f"timer {timer[0]} {'comparator' if timer[1] else 'configuration'}"
+    return REGISTERS.get(whole)
+
+
+def register(window, width, offset, index):
+    """The register at a place that is allowed, or the half of one."""
     if window == 0:
-        return {0x00: "index", 0x10: indexed(index)}.get(offset, f"offset 0x{offset:02x}, no register")
-    if window == 1:
-        timer = of_timer(offset)
-        if timer:
-            return f"timer {timer[0]} {'comparator' if timer[1] else 'configuration'}"
-        return REGISTERS.get(offset, f"offset 0x{offset:03x}, no register")
-    return f"offset 0x{offset:02x}"
+        return indexed(index) if offset else "index"
+    whole = of_timers(offset - offset % 8)
+    if not whole:
+        return f"offset 0x{offset:03x}, no register"
+    return whole if width == 8 else f"{'high' if offset % 8 else 'low'} half of {whole}"
+
+
+# ---- what a written value says, or None where it is only a number
 
 
 def low_word(value):
@@ -41,36 +70,57 @@ def configuration(value):
     return ", ".join(parts + [said for bit, said in bits if value >> bit & 1] + [f"route {value >> 9 & 0x1F}"])
 
 
-def meaning(window, offset, index, value):
-    """What a written value says, in parentheses, where it is more than a number."""
-    timer = of_timer(offset)
-    if window == 0 and value >= 2**32:
-        said = "more than 4 bytes"
-    elif window == 0 and offset == 0:
-        said = indexed(value & 0xFF)
-    elif window == 0 and offset == 0x10 and 0x10 <= index <= 0x3F:
-        said = f"destination {value >> 24 & 0xFF}" if index % 2 else low_word(value)
-    elif window == 1 and timer and not timer[1]:
-        said = configuration(value)
-    elif window == 1 and offset == 0x010:
-        said = "enable" if value & 1 else "disable"
-    elif window == 1 and offset == 0x020:
-        said = "clear " + (", ".join(f"timer {m}" for m in range(3) if value >> m & 1) or "nothing")
-    elif window == 1 and value > 9 and (timer or offset == 0x0F0):
-        said = str(value)
-    else:
-        return ""
-    return f" ({said})"
+def to_controller(offset, index, value):
+    if offset == 0:
+        return indexed(value & 0xFF)
+    if 0x10 <= index <= 0x3F:
+        return f"destination {value >> 24 & 0xFF}" if index % 2 else low_word(value)
+    return None
+
+
+def to_timers(whole, high, value):
+    """A value for the register at this offset; `high`: for its high half."""
+    timer = of_timer(whole)
+    if whole == 0x0F0 or timer and timer[1]:
+        return str(value) if value > 9 and not high else None
+    if not of_timers(whole):
+        return None
+    # no bit that can be written is in the capabilities, or in the high half of the status and the configurations
+    if whole == 0x000 or high:
+        return "changes nothing"
+    if whole == 0x010:
+        return "enable" if value & 1 else "disable"
+    if whole == 0x020:
+        return "clear " + (", ".join(f"timer {m}" for m in range(3) if value >> m & 1) or "nothing")
+    return configuration(value)
+
+
+def meaning(window, width, offset, index, value):
+    if width == 4 and value >= 2**32:
+        return "more than 4 bytes"
+    if window == 0:
+        return to_controller(offset, index, value)
+    return to_timers(offset - offset % 8, offset % 8 == 4, value)
+
+
+# ---- records
+
+
+def accessed(word, index, window, width, offset, value=None):
+    name = WINDOWS.get(window, f"window {window}, which doesn't exist")
+    wrong = disallowed(window, width, offset)
+    said = f"{word} {name}, {wrong or register(window, width, offset, index)}"
+    if value is None:
+        return said
+    # a value that isn't taken is shown as the log has it, in 8 bytes
+    meant = None if wrong else meaning(window, width, offset, index, value)
+    return f"{said}: 0x{value:0{16 if wrong else 2 * width}x}" + (f" ({meant})" if meant else "")
 
 
 def explained(word, values, index):
     """One record in words; `index` is the controller's as the records before have left it."""
     if word in ("read", "write"):
-        window, width, offset, *value = values
-        name = {0: "controller", 1: "timers"}.get(window, f"window {window}, which doesn't exist")
-        odd = f", width {width}" if width != {0: 4, 1: 8}.get(window) else ""
-        said = f"{word} {name}{odd}, {register(window, offset, index)}"
-        return said + "".join(f": 0x{v:0{16 if window else 8}x}{meaning(window, offset, index, v)}" for v in value)
+        return accessed(word, index, *values)
     if word == "wire":
         pin, level = values
         return f"wire of pin {pin} " + {0: "low", 1: "high"}.get(level, f"to level {level}, which doesn't exist")

@@ -108,8 +108,8 @@ enum {
 /* ---- windows and registers ---- */
 
 enum {
-    NATAQVOJU_CONTROLLER = 0, /* width 4 only */
-    NATAQVOJU_TIMERS = 1      /* width 8 only, offset a multiple of 8, below 0x400 */
+    NATAQVOJU_CONTROLLER = 0, /* width 4 */
+    NATAQVOJU_TIMERS = 1      /* width 8 or 4, offset a multiple of the width, below 0x400 */
 };
 
 enum { /* of the controller's window */
@@ -124,6 +124,20 @@ enum { /* what the index chooses; entry n's low word is at 0x10 + 2n, its high w
     NATAQVOJU_ENTRY = 0x10
 };
 
+/* A timer register has 8 bytes. Width 8 takes it whole, width 4 one half of it: the low half at its own offset, the
+ * high half 4 above.
+ *   - A half read gives that half.
+ *   - A half write is a write of the whole register, in which the other half is what the register reads now; for the
+ *     status it counts as zeros. So the high half of a configuration or of the status changes nothing.
+ *   - For a comparator, the half is replaced in whatever the whole write would set: the comparator, the period, or
+ *     (periodic, with bit 6) both, each of which keeps its own other half. Bit 6 is then 0, whichever half that was,
+ *     so the second half goes into the period alone. In 32-bit mode a high half stores 0.
+ * Bit 6 in 64-bit mode is a trap: only the first half reaches the comparator. From reset, 10 written low half first
+ * leaves it at 0xFFFFFFFF0000000A (58,000 years away). Written high half first it is 0x00000000FFFFFFFF: the first
+ * firing comes after seven minutes, and then one every period. Two ways that work for a periodic timer in halves
+ * (docs/MONITOR.md has a third):
+ *   - in 32-bit mode: bits 8, 6 and 3, the low half first, then the high half;
+ *   - in 64-bit mode: the comparator's halves as one-shot, then bit 3 without bit 6, then the period's halves. */
 enum { /* of the timers' window; timer n's configuration is at 0x100 + 0x20n, its comparator 8 above */
     NATAQVOJU_CAPABILITIES = 0x000,
     NATAQVOJU_CONFIGURATION = 0x010,
@@ -131,7 +145,8 @@ enum { /* of the timers' window; timer n's configuration is at 0x100 + 0x20n, it
     NATAQVOJU_COUNTER = 0x0F0,
     NATAQVOJU_TIMER = 0x100,
     NATAQVOJU_TIMER_STEP = 0x020,
-    NATAQVOJU_COMPARATOR = 0x008
+    NATAQVOJU_COMPARATOR = 0x008,
+    NATAQVOJU_HIGH_HALF = 0x004 /* from a register to its high half, of width 4 */
 };
 
 /* ---- the calls ---- */

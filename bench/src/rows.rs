@@ -50,10 +50,14 @@ pub fn each(taker: &mut impl Taker) {
     row!(taker, "read, index register", &board, keep, read(0, 4, 0x00));
     row!(taker, "read, low word", &board, keep, read(0, 4, 0x10));
     row!(taker, "read, main counter", &board, keep, read(1, 8, 0xF0));
+    row!(taker, "read, main counter, low half", &board, keep, read(1, 4, 0xF0));
+    row!(taker, "read, comparator, high half", &board, keep, read(1, 4, 0x10C));
     row!(taker, "read, refused", &board, keep, read(0, 4, 0x04));
     row!(taker, "write, low word", &board, keep, write(0, 4, 0x10, 0x0000_8031));
     row!(taker, "write, comparator", &board, keep, write(1, 8, 0x108, 1 << 63));
+    row!(taker, "write, comparator, high half", &board, keep, write(1, 4, 0x10C, 1 << 31));
     row!(taker, "write, configuration", &board, keep, write(1, 8, 0x100, 0x0806));
+    row!(taker, "write, configuration, low half", &board, keep, write(1, 4, 0x100, 0x0806));
     let lower = |board: &mut Board| {
         board.outside[5] = 0;
         board.controller.entries.level[5] = 0;

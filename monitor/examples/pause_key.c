@@ -10,7 +10,7 @@
 enum { DRIVE = 9, PAUSE = 14 };          /* the pins of the servo drive and of the pause key */
 enum { DRIVE_VECTOR = 0x29, PAUSE_VECTOR = 0x2E };
 enum { EDGE = 0x0000, LEVEL = 0x8000, LOGICAL = 0x0800 };
-enum { INTERRUPT = 0x04, PERIODIC = 0x08, SET_COMPARATOR = 0x40, ROUTE_AT = 9 };
+enum { INTERRUPT = 0x04, PERIODIC = 0x08, SET_COMPARATOR = 0x40, NARROW = 0x100, ROUTE_AT = 9 };
 
 /* ---- one line for each call: what was done, and the answer ---- */
 
@@ -112,12 +112,16 @@ static void refusals(NataqvojuBoard *b) {
     value("read of the controller, width 4, offset 0x04", nataqvoju_read(b, NATAQVOJU_CONTROLLER, 4, 0x04));
     value("read of the timers, width 8, offset 0x400", nataqvoju_read(b, NATAQVOJU_TIMERS, 8, 0x400));
     value("read of the controller, width 8, offset 0x04", nataqvoju_read(b, NATAQVOJU_CONTROLLER, 8, 0x04));
-    value("read of the timers, width 4, offset 0x100", nataqvoju_read(b, NATAQVOJU_TIMERS, 4, 0x100));
+    value("read of the timers, width 2, offset 0x100", nataqvoju_read(b, NATAQVOJU_TIMERS, 2, 0x100));
     value("read of the timers, width 8, offset 0x104", nataqvoju_read(b, NATAQVOJU_TIMERS, 8, 0x104));
+    value("read of the timers, width 4, offset 0x102", nataqvoju_read(b, NATAQVOJU_TIMERS, 4, 0x102));
+    value("read of the timers, width 4, offset 0x404", nataqvoju_read(b, NATAQVOJU_TIMERS, 4, 0x404));
     done("wire 24 high", nataqvoju_wire(b, 24, 1));
     done("wire 4000000000 to level 7", nataqvoju_wire(b, 4000000000u, 7));
     done("wire 0 to level 2", nataqvoju_wire(b, 0, 2));
     done("write of 4294967296 to the controller", nataqvoju_write(b, NATAQVOJU_CONTROLLER, 4, NATAQVOJU_DATA, UINT64_C(4294967296)));
+    done("write of 4294967296 to half a timer register",
+         nataqvoju_write(b, NATAQVOJU_TIMERS, 4, 0x10C, UINT64_C(4294967296)));
     same("the board", b, &saved);
 }
 
@@ -171,6 +175,21 @@ static void full_advance(NataqvojuBoard *b) {
     value("counter", nataqvoju_read(b, NATAQVOJU_TIMERS, 8, NATAQVOJU_COUNTER));
 }
 
+/* As a build does that reads and writes the timers four bytes at a time: 32-bit mode, and the low half first. */
+static void in_halves(NataqvojuBoard *b) {
+    unsigned comparator = NATAQVOJU_TIMER + NATAQVOJU_COMPARATOR;
+    uint64_t configuration = 20u << ROUTE_AT | NARROW | SET_COMPARATOR | PERIODIC | INTERRUPT;
+    puts("-- timer 0 in halves: 32-bit mode, period 2, on pin 20");
+    done("configuration, low half", nataqvoju_write(b, NATAQVOJU_TIMERS, 4, NATAQVOJU_TIMER, configuration));
+    done("comparator, low half", nataqvoju_write(b, NATAQVOJU_TIMERS, 4, comparator, 2));
+    done("comparator, high half", nataqvoju_write(b, NATAQVOJU_TIMERS, 4, comparator + NATAQVOJU_HIGH_HALF, 0));
+    fired("advance by 8", nataqvoju_advance(b, 8));
+    value("comparator, low half", nataqvoju_read(b, NATAQVOJU_TIMERS, 4, comparator));
+    value("counter, low half", nataqvoju_read(b, NATAQVOJU_TIMERS, 4, NATAQVOJU_COUNTER));
+    value("counter, high half", nataqvoju_read(b, NATAQVOJU_TIMERS, 4, NATAQVOJU_COUNTER + NATAQVOJU_HIGH_HALF));
+    delivery("delivery step", nataqvoju_deliver(b));
+}
+
 int main(void) {
     NataqvojuBoard board;
     pause_key(&board);
@@ -178,5 +197,6 @@ int main(void) {
     not_a_board();
     damaged(&board);
     full_advance(&board);
+    in_halves(&board);
     return 0;
 }

@@ -87,6 +87,8 @@ static int refuses_all(const NataqvojuBoard *b) {
     ok &= bare(nataqvoju_read(&lent.board, 7, 3, 1), 5) && unchanged();
     ok &= bare(nataqvoju_write(&lent.board, NATAQVOJU_CONTROLLER, 4, NATAQVOJU_DATA, 0x2A), 5) && unchanged();
     ok &= bare(nataqvoju_write(&lent.board, NATAQVOJU_TIMERS, 8, 0x108, 1), 5) && unchanged();
+    ok &= bare(nataqvoju_read(&lent.board, NATAQVOJU_TIMERS, 4, NATAQVOJU_COUNTER), 5) && unchanged();
+    ok &= bare(nataqvoju_write(&lent.board, NATAQVOJU_TIMERS, 4, 0x10C, UINT64_MAX), 5) && unchanged();
     ok &= bare(nataqvoju_wire(&lent.board, 1, 1), 5) && unchanged();
     ok &= bare(nataqvoju_wire(&lent.board, 24, 2), 5) && unchanged();
     ok &= bare(nataqvoju_end(&lent.board, 0x32), 5) && unchanged();
@@ -231,11 +233,13 @@ static uint64_t next(void) {
 }
 
 static NataqvojuNumbers any_call(NataqvojuBoard *b, uint64_t r, uint64_t x) {
+    /* an access to the timers: a whole register, or a half */
+    uint64_t width = r >> 8 & 1 ? 8 : 4, offset = (r >> 16 & 127) * 4 / width * width;
     switch (r % 8) {
-    case 0: return nataqvoju_read(b, r >> 8 & 1, 4 + 4 * (r >> 8 & 1), r >> 8 & 1 ? (r >> 16 & 63) * 8 : (r >> 16 & 1) * 16);
+    case 0: return r >> 9 & 1 ? nataqvoju_read(b, 1, width, offset) : nataqvoju_read(b, 0, 4, (r >> 16 & 1) * 16);
     case 1: return nataqvoju_write(b, 0, 4, 0, r >> 16 & 63);
     case 2: return nataqvoju_write(b, 0, 4, 16, x & 0x1FFFF);
-    case 3: return nataqvoju_write(b, 1, 8, (r >> 16 & 63) * 8, r >> 24 & 1 ? x : x & 0x3FFF);
+    case 3: return nataqvoju_write(b, 1, width, offset, r >> 24 & 1 ? x >> (64 - 8 * width) : x & 0x3FFF);
     case 4: return nataqvoju_wire(b, (r >> 16) % 25, r >> 32 & 1);
     case 5: return nataqvoju_end(b, (uint8_t)(r >> 16));
     case 6: return nataqvoju_advance(b, (uint32_t)(r >> 24 & 1 ? x : x & 31));

@@ -25,6 +25,12 @@ def read(window, width, offset):
     return MARK + struct.pack("<BBBH", 1, window, width, offset)
 
 
+def timers(r, offset, value):
+    """A timer register written whole, as its two halves in either order, or as one of them."""
+    low, high = write(1, 4, offset, value % 2**32), write(1, 4, offset + 4, value // 2**32)
+    return r.choice((write(1, 8, offset, value), write(1, 8, offset, value), low + high, high + low, low, high))
+
+
 def records(r):
     """A few records that belong together."""
     kind = r.randrange(10)
@@ -43,17 +49,20 @@ def records(r):
         return MARK + b"\x06"
     if kind == 6:
         at = 0x100 + 0x20 * r.randrange(3)
-        return write(1, 8, at, r.getrandbits(14)) + write(1, 8, at + 8, r.choice((1, 3, 10, r.getrandbits(16), r.getrandbits(64))))
+        comparator = r.choice((1, 3, 10, r.getrandbits(16), r.getrandbits(64)))
+        return timers(r, at, r.getrandbits(14)) + timers(r, at + 8, comparator)
     if kind == 7:
-        return write(1, 8, 0x10, r.randrange(2)) if r.randrange(3) else write(1, 8, 0x20, r.randrange(8))
+        return timers(r, 0x10, r.randrange(2)) if r.randrange(3) else timers(r, 0x20, r.randrange(8))
     if kind == 8:
-        return read(1, 8, r.choice((0, 0x10, 0x20, 0xF0, 0x100, 0x108, 0x120, 0x128, 0x140, 0x148)))
+        width = r.choice((4, 8))
+        at = r.choice((0, 0x10, 0x20, 0xF0, 0x100, 0x108, 0x120, 0x128, 0x140, 0x148))
+        return read(1, width, at + r.randrange(0, 8, width))
     return r.choice((
         read(r.randrange(3), r.choice((1, 2, 4, 8)), r.randrange(0x410)),
         write(r.randrange(3), r.choice((1, 2, 4, 8)), r.randrange(0x410), r.getrandbits(64)),
         write(0, 4, 0x10, r.getrandbits(33)),
         MARK + bytes((3, r.randrange(256), r.randrange(256))),
-        write(1, 8, 0xF0, r.choice((0, 2**32 - 2, 2**64 - 2, r.getrandbits(64)))),
+        timers(r, 0xF0, r.choice((0, 2**32 - 2, 2**64 - 2, r.getrandbits(64)))),
     ))
 
 

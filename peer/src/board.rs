@@ -2,7 +2,7 @@
 
 use crate::controller::{Controller, Delivery};
 use crate::pin::PINS;
-use crate::timers::{Timers, TIMERS, WINDOW_END};
+use crate::timers::{Timers, TIMERS};
 
 /// Why a call or a log is refused, by the paper's numbers.
 #[derive(Clone, Copy, PartialEq, Eq, Debug)]
@@ -184,18 +184,19 @@ fn refuse_unless(condition: bool, refusal: Refusal) -> Result<(), Refusal> {
 
 /// The tests of an access after refusal 5, in the paper's order: 1 for the window, 2, 1 for the
 /// offset. The windows differ in all three.
-fn check_access(window: u64, width: u64, offset: u64) -> Result<(), Refusal> {
-    match window {
-        CONTROLLER => {
-            refuse_unless(width == 4, Refusal::Width)?;
-            refuse_unless(Controller::has_offset(offset), Refusal::Place)
-        }
-        TIMER_BLOCK => {
-            refuse_unless(width == 8 && offset.is_multiple_of(8), Refusal::Width)?;
-            refuse_unless(offset < WINDOW_END, Refusal::Place)
-        }
-        _ => Err(Refusal::Place),
-    }
+pub(crate) fn check_access(window: u64, width: u64, offset: u64) -> Result<(), Refusal> {
+    let (is_allowed, exists) = match window {
+        CONTROLLER => (width == 4, Controller::has_offset(offset)),
+        TIMER_BLOCK => (Timers::allows(width, offset), Timers::has_offset(offset)),
+        _ => return Err(Refusal::Place),
+    };
+    refuse_unless(is_allowed, Refusal::Width)?;
+    refuse_unless(exists, Refusal::Place)
+}
+
+/// The last test of a write, wherever it goes.
+pub(crate) fn check_value(width: u64, value: u64) -> Result<(), Refusal> {
+    refuse_unless(width != 4 || value <= u64::from(u32::MAX), Refusal::Value)
 }
 
 impl Calls for Board {
@@ -210,18 +211,18 @@ impl Calls for Board {
         Ok(if window == CONTROLLER {
             u64::from(self.controller.read(offset))
         } else {
-            self.timers.read(offset)
+            self.timers.read(width, offset)
         })
     }
 
     fn write(&mut self, window: u64, width: u64, offset: u64, value: u64) -> Result<(), Refusal> {
         self.check_state()?;
         check_access(window, width, offset)?;
+        check_value(width, value)?;
         if window == CONTROLLER {
-            let value = u32::try_from(value).map_err(|_| Refusal::Value)?;
-            self.controller.write(offset, value);
+            self.controller.write(offset, value as u32);
         } else {
-            self.timers.write(offset, value);
+            self.timers.write(width, offset, value);
             self.settle();
         }
         Ok(())

@@ -1,10 +1,10 @@
 //! The second, independent model of the board.
 //!
-//! It is written from document 01 and the decided readings alone, in a structure of its own: a
+//! It is written from documents 01 and 02 and the decided readings alone, in a structure of its own: a
 //! struct for each pin, wires that settle step by step, and time that jumps from one tick at
 //! which a pin can change to the next. The first program is compared with it.
 //!
-//! - [`pin`], [`controller`], [`timer`], [`timers`], [`board`]: the model.
+//! - [`pin`], [`controller`], [`part`], [`timer`], [`timers`], [`board`]: the model.
 //! - [`log`]: event logs, read and replayed.
 //! - [`generate`], [`events`], [`shrink`], [`fuzz`]: random logs, what happens in them, and the
 //!   comparison with another program.
@@ -20,6 +20,7 @@ pub mod fuzz;
 pub mod generate;
 pub mod log;
 pub mod mutants;
+pub mod part;
 pub mod pin;
 pub mod random;
 pub mod sequence;

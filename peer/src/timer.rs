@@ -1,5 +1,6 @@
 //! One timer: its numbers, its configuration and its firing.
 
+use crate::part::Part;
 use crate::pin::PINS;
 
 /// Bits of a timer's configuration.
@@ -68,7 +69,7 @@ impl Timer {
         }
     }
 
-    fn reduce(&self, value: u64) -> u64 {
+    pub(crate) fn reduce(&self, value: u64) -> u64 {
         (u128::from(value) % self.turn()) as u64
     }
 
@@ -158,14 +159,20 @@ impl Timer {
         self.period = self.reduce(self.period);
     }
 
-    /// A comparator write.
-    pub fn write_comparator(&mut self, value: u64) {
-        let value = self.reduce(value);
+    /// A number that a comparator write sets: the part is replaced, at the timer's width. So a
+    /// high half in 32-bit mode stores 0 and keeps the low half.
+    fn rewritten(&self, number: u64, part: Part, value: u64) -> u64 {
+        self.reduce(part.replace(number, value))
+    }
+
+    /// A comparator write, whole or of a half. Each number keeps its own other half, and the
+    /// first half clears bit 6, whichever it is.
+    pub fn write_comparator(&mut self, part: Part, value: u64) {
         if self.periodic {
-            self.period = value;
+            self.period = self.rewritten(self.period, part, value);
         }
         if !self.periodic || self.set_comparator {
-            self.comparator = value;
+            self.comparator = self.rewritten(self.comparator, part, value);
         }
         self.set_comparator = false;
     }

@@ -1,5 +1,6 @@
 //! The timer block: three timers, the main counter, and their registers.
 
+use crate::part::{register_at, Part, PartWrite};
 use crate::timer::Timer;
 
 /// Number of timers.
@@ -73,9 +74,30 @@ impl Timers {
     /// The block after a reset.
     pub const RESET: Timers = Timers { counter: 0, enabled: false, timer: [Timer::RESET; TIMERS] };
 
-    /// A read at an offset that exists.
-    pub fn read(&self, offset: u64) -> u64 {
-        match Register::at(offset) {
+    /// Whether the window has something at this offset.
+    pub fn has_offset(offset: u64) -> bool {
+        offset < WINDOW_END
+    }
+
+    /// Whether the paper lists a register at this multiple of 8.
+    pub fn is_listed(register: u64) -> bool {
+        !matches!(Register::at(register), Register::Unlisted)
+    }
+
+    /// Whether the window allows this width at this offset.
+    pub fn allows(width: u64, offset: u64) -> bool {
+        matches!(width, 4 | 8) && offset.is_multiple_of(width)
+    }
+
+    /// A read of an allowed width at an offset that exists.
+    pub fn read(&self, width: u64, offset: u64) -> u64 {
+        let whole = self.read_register(register_at(offset));
+        Part::reached_by(width, offset).of(whole)
+    }
+
+    /// The 8-byte value of the register at this offset.
+    pub fn read_register(&self, register: u64) -> u64 {
+        match Register::at(register) {
             Register::Capability => CAPABILITY_VALUE,
             Register::Enable => u64::from(self.enabled),
             Register::Status => self.read_status(),
@@ -90,14 +112,26 @@ impl Timers {
         (0..TIMERS).map(|n| u64::from(self.timer[n].status) << n).sum()
     }
 
-    /// A write at an offset that exists.
-    pub fn write(&mut self, offset: u64, value: u64) {
-        match Register::at(offset) {
-            Register::Enable => self.enabled = value & 1 != 0,
-            Register::Status => self.clear_status(value),
-            Register::Counter if !self.enabled => self.counter = value,
-            Register::Configuration(n) => self.timer[n].write_configuration(value),
-            Register::Comparator(n) => self.timer[n].write_comparator(value),
+    /// What a write of an allowed width at an offset that exists is about.
+    pub fn part_write(&self, width: u64, offset: u64, value: u64) -> PartWrite {
+        let (register, part) = (register_at(offset), Part::reached_by(width, offset));
+        let replaced = part.replace(self.read_register(register), value);
+        PartWrite { register, part, value, replaced }
+    }
+
+    /// A write of an allowed width at an offset that exists, with a value that fits the width.
+    ///
+    /// A half write replaces that half of what the register reads now and goes on as a write of
+    /// the whole, with two exceptions: a status write takes the missing half as zeros, and a
+    /// comparator write replaces the half in the numbers that it sets.
+    pub fn write(&mut self, width: u64, offset: u64, value: u64) {
+        let write = self.part_write(width, offset, value);
+        match Register::at(write.register) {
+            Register::Enable => self.enabled = write.replaced & 1 != 0,
+            Register::Status => self.clear_status(write.alone()),
+            Register::Counter if !self.enabled => self.counter = write.replaced,
+            Register::Configuration(n) => self.timer[n].write_configuration(write.replaced),
+            Register::Comparator(n) => self.timer[n].write_comparator(write.part, value),
             Register::Capability | Register::Counter | Register::Unlisted => {}
         }
     }

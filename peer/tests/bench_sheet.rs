@@ -2,12 +2,11 @@
 #![allow(missing_docs)]
 
 mod common;
-use common::Desk;
+use common::{Desk, NARROW};
 use peer::board::{Calls, Refusal};
 
 /// Periodic, with bit 6.
 const PERIODIC_SET: u64 = 1 << 3 | 1 << 6;
-const NARROW: u64 = 1 << 8;
 
 #[test]
 fn b1_version() {

@@ -2,20 +2,10 @@
 #![allow(missing_docs)]
 
 mod common;
-use common::Desk;
+use common::{Desk, EDGE, EDGE_LOW, FIXED, INTERRUPT, LEVEL_TYPE, NARROW, PERIODIC, SET};
 use peer::board::{Board, Calls, Refusal};
 use peer::pin::REMOTE_IRR;
 
-const LEVEL_TYPE: u64 = 1 << 1;
-const INTERRUPT: u64 = 1 << 2;
-const PERIODIC: u64 = 1 << 3;
-const SET: u64 = 1 << 6;
-const NARROW: u64 = 1 << 8;
-/// What a timer's configuration reads after a reset.
-const FIXED: u64 = 0x00FF_FFFF_0000_0030;
-
-const EDGE: u64 = 0x30;
-const EDGE_LOW: u64 = 0x2030;
 const LEVEL: u64 = 0x8030;
 
 /// A desk with pin 4 written `word` and timer `n`, one-shot, due at counter 3.

@@ -18,4 +18,7 @@ pub mod Leaves
 pub mod Windows
 pub mod ControllerMap
 pub mod TimersMap
+pub mod Halves
+pub mod ComparatorHalves
+pub mod InHalves
 pub mod Words

@@ -39,17 +39,20 @@ bit k v = v / 2 ^ k % 2 * 2 ^ k
 abbrev pub left : ℕ → ℕ → ℕ → ℕ
 left k r v = r / 2 ^ k % 2 * (1 - v / 2 ^ k % 2) * 2 ^ k
 
+pub less : (x y w : ℕ) → x + y ≡ w → x ≡ w - y
+less x y w h = omega arith
+
 -- ---- the accesses, by what the timers make of them
 
 module _ (b : Board) (z : Formed b) (o : ℕ) (a : o % 8 ≡ 0) (l : o < 0x400) where
   abbrev s : Timers
   s = b .timers
 
-  shown : register b o ≡ value (registerOf s o)
+  pub shown : register b o ≡ value (registerOf s o)
   shown = ap (λ (t : Turn). t .answer) (shows b z o a l)
 
-  is : (r : ℕ) → register b o ≡ value r → registerOf s o ≡ r
-  is r e = same-value _ _ (sym shown ∙ e)
+  pub shown-is : (r : ℕ) → register b o ≡ value r → registerOf s o ≡ r
+  shown-is r e = same-value _ _ (sym shown ∙ e)
 
   module _ (v : ℕ) where
     after : turnOf b (set o v) .board .timers ≡ writtenOf s o v
@@ -84,14 +87,14 @@ module _ (b : Board) (z : Formed b) (v : ℕ) where
   pub status-back : (r : ℕ) → register b 0x020 ≡ value r → answers b (set 0x020 v ∷ show 0x020 ∷ []) ≡ ok ∷ value (left 2 r v + (left 1 r v + left 0 r v)) ∷ []
   status-back r e =
       read-back b z 0x020 refl (omega arith) v (left 2 r v + (left 1 r v + left 0 r v))
-      (Back.status-back (b .timers) v ∙ ap (λ (x : ℕ). left 2 x v + (left 1 x v + left 0 x v)) (is b z 0x020 refl (omega arith) r e))
+      (Back.status-back (b .timers) v ∙ ap (λ (x : ℕ). left 2 x v + (left 1 x v + left 0 x v)) (shown-is b z 0x020 refl (omega arith) r e))
 
   -- "0x0F0: main counter. A write while enabled is ignored."
   pub counter-back : register b 0x010 ≡ value 0 → answers b (set 0x0F0 v ∷ show 0x0F0 ∷ []) ≡ ok ∷ value v ∷ []
-  counter-back e = read-back b z 0x0F0 refl (omega arith) v v (Back.counter-back (b .timers) v (is b z 0x010 refl (omega arith) 0 e))
+  counter-back e = read-back b z 0x0F0 refl (omega arith) v v (Back.counter-back (b .timers) v (shown-is b z 0x010 refl (omega arith) 0 e))
 
   pub counter-ignored : register b 0x010 ≡ value 1 → turnOf b (set 0x0F0 v) ≡ turn b ok
-  counter-ignored e = ignored-by b z 0x0F0 refl (omega arith) v (Back.counter-ignored (b .timers) v (is b z 0x010 refl (omega arith) 1 e))
+  counter-ignored e = ignored-by b z 0x0F0 refl (omega arith) v (Back.counter-ignored (b .timers) v (shown-is b z 0x010 refl (omega arith) 1 e))
 
   -- "Offsets not listed read 0 and ignore writes."
   module _ (o : ℕ) (a : o % 8 ≡ 0) (l : o < 0x400) (u : Unlisted o) where
@@ -117,7 +120,7 @@ module _ (b : Board) (z : Formed b) (v n k : ℕ) (l : n < 3) (e : register b (c
   a8 = omega arith
 
   was : registerOf block (configuration n) ≡ k
-  was = is b z (configuration n) a0 (omega arith) k e
+  was = shown-is b z (configuration n) a0 (omega arith) k e
 
   -- "Writable: 1 level type, 2 interrupt enable, 3 periodic, 6 set-comparator (kept only if bit 3 is written 1), 8 32-bit mode, 13:9 route. Bits 5 and 4 read 1;
   -- bits 63:32 read 0x00FFFFFF; the rest read 0. A route above 23 keeps the old route; the other bits are taken."
@@ -143,7 +146,7 @@ module _ (b : Board) (z : Formed b) (v n k : ℕ) (l : n < 3) (e : register b (c
   configuration-status m r q h er eq =
       ap (λ (x : ℕ). x / 2 ^ m % 2) (same-value _ _ (sym eq ∙ then b z (configuration n) a0 (omega arith) v 0x020 refl (omega arith)))
       ∙ Back.configuration-status block f n l v m h
-      ∙ ap (λ (x : ℕ). cond (eqb m n) (cond (eqb (v / 2 ^ 1 % 2) 1) (x / 2 ^ m % 2) 0) (x / 2 ^ m % 2)) (is b z 0x020 refl (omega arith) r er)
+      ∙ ap (λ (x : ℕ). cond (eqb m n) (cond (eqb (v / 2 ^ 1 % 2) 1) (x / 2 ^ m % 2) 0) (x / 2 ^ m % 2)) (shown-is b z 0x020 refl (omega arith) r er)
 
   -- what is written as a comparator: "In 32-bit mode the written number is first reduced modulo 2^32."
   abbrev pub taken : ℕ
@@ -151,7 +154,7 @@ module _ (b : Board) (z : Formed b) (v n k : ℕ) (l : n < 3) (e : register b (c
 
   module _ (r : ℕ) (q : register b (comparator n) ≡ value r) where
     held : registerOf block (comparator n) ≡ r
-    held = is b z (comparator n) a8 (omega arith) r q
+    held = shown-is b z (comparator n) a8 (omega arith) r q
 
     -- "Writing 32-bit mode reduces comparator and period modulo 2^32."
     pub configuration-reduces : register (turnOf b (set (configuration n) v) .board) (comparator n) ≡ value (cond (eqb (v / 2 ^ 8 % 2) 1) (r % 2 ^ 32) r)
@@ -185,9 +188,6 @@ module _ (b : Board) (z : Formed b) (v n k : ℕ) (l : n < 3) (e : register b (c
     where
       unset : ℕ
       unset = registerOf (writtenOf block (comparator n) v) (configuration n)
-
-      less : (x y w : ℕ) → x + y ≡ w → x ≡ w - y
-      less x y w h = omega arith
 
 -- ---- what a write leaves of the other registers
 

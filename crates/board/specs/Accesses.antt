@@ -1,5 +1,7 @@
 -- The accesses of a bench line or of a theorem, as calls.
 use Prim.Native.Nat.{ℕ, _+_, _*_}
+use Rattle.timer.specs.declared.Half.{Half}
+use Rattle.timers.specs.Registers.{placeOf}
 use Rattle.board.specs.declared.Call.{Call}
 use Rattle.board.specs.declared.Call.the-variants as call
 
@@ -31,6 +33,13 @@ set offset v = call.Write 1 8 offset v
 
 abbrev pub show : ℕ → Call
 show offset = call.Read 1 8 offset
+
+-- the same for a half of the register at an offset
+abbrev pub setHalf : Half → ℕ → ℕ → Call
+setHalf h offset v = call.Write 1 4 (placeOf h offset) v
+
+abbrev pub showHalf : Half → ℕ → Call
+showHalf h offset = call.Read 1 4 (placeOf h offset)
 
 -- timer n's two registers
 abbrev pub configuration : ℕ → ℕ

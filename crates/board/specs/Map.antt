@@ -1,12 +1,10 @@
 -- The register map and the rules beside the bench sheet, from reset: one table, one statement. Each line is worked by hand from document 01.
-use Prim.Native.Nat.{ℕ, _^_}
+use Prim.Native.Nat.{_^_}
 use mathlib.Core.Path.{_≡_, refl}
 use mathlib.Core.List.{List, [], _∷_, _++_, map}
-use Rattle.answers.specs.declared.Answer.{Answer}
 use Rattle.answers.specs.declared.Answer.the-variants as answer
-use Rattle.answers.specs.declared.Refusal.{Refusal}
 use Rattle.answers.specs.declared.Refusal.the-variants as refusal
-use Rattle.answers.specs.Sheet.{ok, value, fired, none}
+use Rattle.answers.specs.Sheet.{none}
 use Rattle.pins.specs.Pins.{tab, firstFrom, allFrom}
 use Rattle.entries.specs.Word.{modeOf, remoteOf, levelOf, maskedOf, withRemote, withoutRemote, writable, written, shown, wordOk}
 use Rattle.entries.specs.Pin.{asserted, makesEdge, heldAfter, eligible, endedWord, pinOk}
@@ -15,15 +13,14 @@ use Rattle.controller.specs.State.{wellFormed as controllerFormed}
 use Rattle.controller.specs.Window.{dataRead, dataWritten, readingOf as controllerReading, writingOf as controllerWriting}
 use Rattle.controller.specs.Steps.{deliveringOf}
 use Rattle.timer.specs.State.{resetTimer}
-use Rattle.timer.specs.Registers.{configurationOf, configuredOf, comparedOf, clearedOf}
+use Rattle.timer.specs.Registers.{configurationOf, configuredOf, setOf, clearedOf}
 use Rattle.timer.specs.Tick.{meets, firing, pulsing, driving}
 use Rattle.timer.specs.Formed.{flagsFit, narrowFits, timerFormed}
 use Rattle.timers.specs.State.{resetTimers}
 use Rattle.timers.specs.Formed.{wellFormed as timersFormed}
-use Rattle.timers.specs.Registers.{statusOf, timerRegister, registerOf, timerWritten, writtenOf}
+use Rattle.timers.specs.Registers.{statusOf, timerRegister, registerOf, timerWritten, writtenOf, shownOf, storedOf}
 use Rattle.timers.specs.Tick.{countedOf, matchesOf, firedOf, drivesOf, pulsesOf, routeOf}
 use Rattle.timers.specs.Call.{readingOf as timersReading, writingOf as timersWriting}
-use Rattle.board.specs.declared.Call.{Call}
 use Rattle.board.specs.declared.Call.the-variants as call
 use Rattle.board.specs.State.{resetBoard}
 use Rattle.board.specs.Wires.{highAt, wiresOf, joined}
@@ -31,71 +28,8 @@ use Rattle.board.specs.Tick.{effect, turned, upTo, tick, firesIn, ticks,
 use Rattle.board.specs.Formed.{wellFormed}
 use Rattle.board.specs.Step.{readingOf, writingOf, wiringOf, endingOf, advancingOf, deliveringOnBoard, servedOf, turnOf}
 use Rattle.board.specs.Runs.{answers}
-use Rattle.board.specs.Accesses.{select, index, put, get, lowWord, highWord, set, show}
-
--- a call and its answer
-pub record Said : Type 0 where
-  pub call : Call
-  pub answer : Answer
-
-abbrev says : Call → Answer → Said
-says c a = record { call = c; answer = a }
-
--- a call that is done, a register that is read, a delivery step
-abbrev done : Call → Said
-done c = says c ok
-
-abbrev reads : Call → ℕ → Said
-reads c v = says c (value v)
-
-abbrev pin : ℕ → ℕ → ℕ → ℕ → Answer
-pin p v d l = answer.Interrupt p v d l
-
-abbrev gives : Answer → Said
-gives a = says call.Deliver a
-
-abbrev refuses : Call → Refusal → Said
-refuses c r = says c (answer.Refused r)
-
-abbrev ticked : ℕ → ℕ → ℕ → ℕ → Said
-ticked n x y z = says (call.Advance n) (fired x y z)
-
--- the index is selected, and what it names is read, or written
-abbrev at : ℕ → ℕ → List Said
-at i v = done (select i) ∷ reads get v ∷ []
-
-abbrev to : ℕ → ℕ → List Said
-to i v = done (select i) ∷ done (put v) ∷ []
-
-abbrev entry : ℕ → ℕ → List Said
-entry n v = to (lowWord n) v
-
--- the selected register is written, and read
-abbrev keeps : ℕ → ℕ → List Said
-keeps v r = done (put v) ∷ reads get r ∷ []
-
--- a timer register is written, and read
-abbrev sets : ℕ → ℕ → ℕ → List Said
-sets o v r = done (set o v) ∷ reads (show o) r ∷ []
-
-abbrev enabled : Said
-enabled = done (set 0x010 1)
-
-abbrev disabled : Said
-disabled = done (set 0x010 0)
-
-abbrev wire : ℕ → ℕ → Said
-wire p l = done (call.Wire p l)
-
-abbrev end : ℕ → Said
-end v = done (call.End v)
-
--- every bit, and a number whose sixteen digits differ
-abbrev ones : ℕ
-ones = 0xFFFFFFFFFFFFFFFF
-
-abbrev digits : ℕ
-digits = 0xFEDCBA9876543210
+use Rattle.board.specs.Accesses.{select, index, put, get, highWord, set, show}
+use Rattle.board.specs.Said.{Said, done, reads, pin, gives, refuses, ticked, at, to, entry, keeps, sets, enabled, disabled, wire, end, ones, digits}
 
 pub sheet : List (List Said)
 sheet =
@@ -236,9 +170,9 @@ sheet =
     ∷ refuses (call.Read 0 4 0x04) refusal.Offset
     ∷ refuses (call.Write 0 8 0x10 (2 ^ 32)) refusal.Width ∷ refuses (call.Write 0 4 0x04 (2 ^ 32)) refusal.Offset
     ∷ refuses (select (2 ^ 32)) refusal.Value ∷ refuses (put (2 ^ 32)) refusal.Value
-    ∷ refuses (call.Read 1 4 0x000) refusal.Width ∷ refuses (call.Read 1 8 0x004) refusal.Width
+    ∷ refuses (call.Read 1 2 0x000) refusal.Width ∷ refuses (call.Read 1 8 0x004) refusal.Width
     ∷ refuses (call.Read 1 8 0x401) refusal.Width ∷ refuses (call.Read 1 8 0x400) refusal.Offset
-    ∷ refuses (call.Write 1 4 0x0F0 7) refusal.Width ∷ refuses (call.Write 1 8 0x400 7) refusal.Offset ∷ reads index 0 ∷ reads get 0
+    ∷ refuses (call.Write 1 2 0x0F0 7) refusal.Width ∷ refuses (call.Write 1 8 0x400 7) refusal.Offset ∷ reads index 0 ∷ reads get 0
     ∷ reads (show 0x0F0) 0 ∷ [])
     -- M44 a wire change: 3, then 4
     ∷ (refuses (call.Wire 24 2) refusal.Pin ∷ refuses (call.Wire 24 0) refusal.Pin ∷ refuses (call.Wire 23 2) refusal.Level ∷ wire 23 1 ∷ [])
@@ -246,5 +180,5 @@ sheet =
 
 -- the statement computes, so it opens every definition down to the ground
 pub computed : map (λ (l : List Said). answers resetBoard (map (λ (s : Said). s .call) l)) sheet ≡ map (map (λ (s : Said). s .answer)) sheet
-unfolding sheet answers tab firstFrom allFrom modeOf remoteOf levelOf maskedOf withRemote withoutRemote writable written shown wordOk asserted makesEdge heldAfter eligible endedWord pinOk entriesOk levelsOk firstEligible wired ended taken lowShown lowWritten controllerFormed dataRead dataWritten controllerReading controllerWriting deliveringOf resetTimer configurationOf configuredOf comparedOf clearedOf meets firing pulsing driving flagsFit narrowFits timerFormed resetTimers timersFormed statusOf timerRegister registerOf timerWritten writtenOf countedOf matchesOf firedOf drivesOf pulsesOf routeOf timersReading timersWriting highAt wiresOf joined effect turned upTo tick firesIn ticks firings wellFormed readingOf writingOf wiringOf endingOf advancingOf deliveringOnBoard servedOf turnOf
+unfolding sheet answers tab firstFrom allFrom modeOf remoteOf levelOf maskedOf withRemote withoutRemote writable written shown wordOk asserted makesEdge heldAfter eligible endedWord pinOk entriesOk levelsOk firstEligible wired ended taken lowShown lowWritten controllerFormed dataRead dataWritten controllerReading controllerWriting deliveringOf resetTimer configurationOf configuredOf setOf clearedOf meets firing pulsing driving flagsFit narrowFits timerFormed resetTimers timersFormed statusOf timerRegister registerOf timerWritten writtenOf shownOf storedOf countedOf matchesOf firedOf drivesOf pulsesOf routeOf timersReading timersWriting highAt wiresOf joined effect turned upTo tick firesIn ticks firings wellFormed readingOf writingOf wiringOf endingOf advancingOf deliveringOnBoard servedOf turnOf
 computed = refl

@@ -15,12 +15,12 @@ use Rattle.controller.specs.State.{wellFormed as controllerFormed}
 use Rattle.controller.specs.Window.{dataRead, dataWritten, readingOf as controllerReading, writingOf as controllerWriting}
 use Rattle.controller.specs.Steps.{deliveringOf}
 use Rattle.timer.specs.State.{resetTimer}
-use Rattle.timer.specs.Registers.{configurationOf, configuredOf, comparedOf, clearedOf}
+use Rattle.timer.specs.Registers.{configurationOf, configuredOf, setOf, clearedOf}
 use Rattle.timer.specs.Tick.{meets, firing, pulsing, driving}
 use Rattle.timer.specs.Formed.{flagsFit, narrowFits, timerFormed}
 use Rattle.timers.specs.State.{resetTimers}
 use Rattle.timers.specs.Formed.{wellFormed as timersFormed}
-use Rattle.timers.specs.Registers.{statusOf, timerRegister, registerOf, timerWritten, writtenOf}
+use Rattle.timers.specs.Registers.{statusOf, timerRegister, registerOf, timerWritten, writtenOf, shownOf, storedOf}
 use Rattle.timers.specs.Tick.{countedOf, matchesOf, firedOf, drivesOf, pulsesOf, routeOf}
 use Rattle.timers.specs.Call.{readingOf as timersReading, writingOf as timersWriting}
 use Rattle.board.specs.declared.Call.{Call}
@@ -91,7 +91,7 @@ sheet =
 
 -- the statement computes, so it opens every definition down to the ground
 pub bench : map (λ (l : Line). answers resetBoard (l .calls)) sheet ≡ map (λ (l : Line). l .answered) sheet
-unfolding sheet answers tab firstFrom allFrom modeOf remoteOf levelOf maskedOf withRemote withoutRemote writable written shown wordOk asserted makesEdge heldAfter eligible endedWord pinOk entriesOk levelsOk firstEligible wired pulsed ended taken lowShown lowWritten controllerFormed dataRead dataWritten controllerReading controllerWriting deliveringOf resetTimer configurationOf configuredOf comparedOf clearedOf meets firing pulsing driving flagsFit narrowFits timerFormed resetTimers timersFormed statusOf timerRegister registerOf timerWritten writtenOf countedOf matchesOf firedOf drivesOf pulsesOf routeOf timersReading timersWriting highAt wiresOf joined effect turned upTo tick firesIn ticks firings wellFormed readingOf writingOf wiringOf endingOf advancingOf deliveringOnBoard servedOf turnOf
+unfolding sheet answers tab firstFrom allFrom modeOf remoteOf levelOf maskedOf withRemote withoutRemote writable written shown wordOk asserted makesEdge heldAfter eligible endedWord pinOk entriesOk levelsOk firstEligible wired pulsed ended taken lowShown lowWritten controllerFormed dataRead dataWritten controllerReading controllerWriting deliveringOf resetTimer configurationOf configuredOf setOf clearedOf meets firing pulsing driving flagsFit narrowFits timerFormed resetTimers timersFormed statusOf timerRegister registerOf timerWritten writtenOf shownOf storedOf countedOf matchesOf firedOf drivesOf pulsesOf routeOf timersReading timersWriting highAt wiresOf joined effect turned upTo tick firesIn ticks firings wellFormed readingOf writingOf wiringOf endingOf advancingOf deliveringOnBoard servedOf turnOf
 bench = refl
 
 pub reset-formed : wellFormed resetBoard ≡ true

@@ -10,7 +10,7 @@ use borrow.Author.Tests.{eqb-true, ltb-true}
 use Rattle.timer.specs.declared.Timer.{Timer}
 use Rattle.timer.specs.State.{flag, width, reduced, narrowed, withComparator, withPeriod, withSet, resetTimer}
 use Rattle.timer.specs.Formed.{timerFormed, flagsFit, narrowFits, Formed}
-use Rattle.timer.specs.Registers.{bit, configuredOf, comparedOf, clearedOf}
+use Rattle.timer.specs.Registers.{bit, configuredOf, setOf, clearedOf}
 use Rattle.timer.specs.Tick.{firing}
 use Rattle.timer.proofs.Formed.{formed-in, formed-out}
 
@@ -80,25 +80,28 @@ module _ (t : Timer) (z : Formed t) where
       go true e = ltb-true (v / 2 ^ 9 % 2 ^ 5) 24 e
       go false e = z .route-pin
 
-  compared-facts : (v : ℕ) → Formed (comparedOf t v)
-  unfolding comparedOf
-  compared-facts v = go (flag (t .periodic))
+  set-facts : (c p : ℕ) → Formed (setOf t c p)
+  unfolding setOf
+  set-facts c p = go (flag (t .periodic))
     where
       x : ℕ
-      x = reduced (narrowed t) v
+      x = reduced (narrowed t) c
+
+      y : ℕ
+      y = reduced (narrowed t) p
 
       x-lt : t .narrow ≡ 1 → x < 2 ^ 32
-      x-lt = reduced-lt (t .narrow) v
+      x-lt = reduced-lt (t .narrow) c
 
       periodic : Timer
-      periodic = withSet (withPeriod (withComparator t (cond (flag (t .«set_comparator»)) x (t .comparator))) x) 0
+      periodic = withSet (withPeriod (withComparator t (cond (flag (t .«set_comparator»)) x (t .comparator))) y) 0
 
       go : (b : Bool) → Formed (cond b periodic (withComparator t x))
       go true =
           record {
             set-periodic = λ n. absurd (n refl);
             comparator-fits = λ n. choose-lt (flag (t .«set_comparator»)) x (t .comparator) (2 ^ 32) (x-lt n) (z .comparator-fits n);
-            period-fits = x-lt;
+            period-fits = reduced-lt (t .narrow) p;
             route-pin = z .route-pin;
             status-level = z .status-level;
             level-bit = z .level-bit;
@@ -149,8 +152,8 @@ module _ (t : Timer) (e : timerFormed t ≡ true) where
   pub configured-formed : (v : ℕ) → timerFormed (configuredOf t v) ≡ true
   configured-formed v = formed-out (configuredOf t v) (configured-facts t (formed-in t e) v)
 
-  pub compared-formed : (v : ℕ) → timerFormed (comparedOf t v) ≡ true
-  compared-formed v = formed-out (comparedOf t v) (compared-facts t (formed-in t e) v)
+  pub set-formed : (c p : ℕ) → timerFormed (setOf t c p) ≡ true
+  set-formed c p = formed-out (setOf t c p) (set-facts t (formed-in t e) c p)
 
   pub cleared-formed : timerFormed (clearedOf t) ≡ true
   cleared-formed = formed-out (clearedOf t) (cleared-facts t (formed-in t e))

@@ -8,6 +8,8 @@
 --   Kept     what keeps it
 --   Bits, Written   register words as the code makes them
 --   ReadBack   a read after a write, bit by bit
+--   Halves   numbers in halves
+--   Compared, Rewritten   a comparator, a configuration that is written in halves
 pub mod Width
 pub mod Closed
 pub mod Ran
@@ -18,3 +20,6 @@ pub mod Kept
 pub mod Bits
 pub mod Written
 pub mod ReadBack
+pub mod Halves
+pub mod Compared
+pub mod Rewritten

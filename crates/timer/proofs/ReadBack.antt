@@ -11,7 +11,7 @@ use borrow.Author.Tests.{eqb-false}
 use Rattle.timer.specs.declared.Timer.{Timer}
 use Rattle.timer.specs.State.{flag, reduced, narrowed, withComparator, withPeriod, withSet}
 use Rattle.timer.specs.Formed.{Formed}
-use Rattle.timer.specs.Registers.{bit, configurationOf, configuredOf, comparedOf, clearedOf}
+use Rattle.timer.specs.Registers.{bit, configurationOf, configuredOf, setOf, clearedOf}
 
 -- a configuration of its fields: 13:9 route, 8 32-bit mode, 6 set-comparator, 5 and 4, 3 periodic, 2 interrupt enable, 1 level type, and 0x00FFFFFF above
 abbrev pub fields : ℕ → ℕ → ℕ → ℕ → ℕ → ℕ → ℕ
@@ -34,11 +34,13 @@ both zero b h l = sym (zero-mul b)
 both (suc zero) b h l = flag-is b l ∙ sym (one-mul b)
 both (suc (suc a)) b h l = absurd (omega arith)
 
-reduced-is : (b : Bool) (x : ℕ) → reduced b x ≡ cond b (x % 2 ^ 32) x
+pub reduced-is : (b : Bool) (x : ℕ) → reduced b x ≡ cond b (x % 2 ^ 32) x
 reduced-is true x = refl
 reduced-is false x = refl
 
 pub record Reads (x : ℕ) (t : Timer) : Type 0 where
+  pub level : x / 2 ^ 1 % 2 ≡ t .«level_type»
+  pub interrupt : x / 2 ^ 2 % 2 ≡ t .interrupt
   pub periodic : x / 2 ^ 3 % 2 ≡ t .periodic
   pub set : x / 2 ^ 6 % 2 ≡ t .«set_comparator»
   pub narrow : x / 2 ^ 8 % 2 ≡ t .narrow
@@ -47,7 +49,7 @@ pub record Reads (x : ℕ) (t : Timer) : Type 0 where
 read-fields :
     (t : Timer) → t .route < 24 → t .narrow < 2 → t .«set_comparator» < 2 → t .periodic < 2 → t .interrupt < 2 → t .«level_type» < 2 →
     Reads (fields (t .route) (t .narrow) (t .«set_comparator») (t .periodic) (t .interrupt) (t .«level_type»)) t
-read-fields t hr hn hs hp hi hl = record { periodic = omega arith; set = omega arith; narrow = omega arith; route = omega arith }
+read-fields t hr hn hs hp hi hl = record { level = omega arith; interrupt = omega arith; periodic = omega arith; set = omega arith; narrow = omega arith; route = omega arith }
 
 module _ (t : Timer) (z : Formed t) where
   -- a well-formed timer's configuration, by its own numbers
@@ -87,42 +89,58 @@ module _ (t : Timer) (z : Formed t) where
     unfolding configuredOf
     configured-status = refl
 
+  -- a write that makes c of the comparator and p of the period, whichever it sets
+  module _ (c p : ℕ) where
     -- what is written as a comparator: "In 32-bit mode the written number is first reduced modulo 2^32"
-    taken : reduced (narrowed t) v ≡ cond (eqb (configurationOf t / 2 ^ 8 % 2) 1) (v % 2 ^ 32) v
-    taken = reduced-is (narrowed t) v ∙ ap (λ (x : ℕ). cond (eqb x 1) (v % 2 ^ 32) v) (sym (configuration-reads .narrow))
+    taken : reduced (narrowed t) c ≡ cond (eqb (configurationOf t / 2 ^ 8 % 2) 1) (c % 2 ^ 32) c
+    taken = reduced-is (narrowed t) c ∙ ap (λ (x : ℕ). cond (eqb x 1) (c % 2 ^ 32) c) (sym (configuration-reads .narrow))
 
-    comparator-is : comparedOf t v .comparator ≡ cond (flag (t .periodic)) (cond (flag (t .«set_comparator»)) (reduced (narrowed t) v) (t .comparator)) (reduced (narrowed t) v)
-    unfolding comparedOf
+    pub comparator-is : setOf t c p .comparator ≡ cond (flag (t .periodic)) (cond (flag (t .«set_comparator»)) (reduced (narrowed t) c) (t .comparator)) (reduced (narrowed t) c)
+    unfolding setOf
     comparator-is = go (flag (t .periodic))
       where
         x : ℕ
-        x = reduced (narrowed t) v
+        x = reduced (narrowed t) c
 
         y : ℕ
         y = cond (flag (t .«set_comparator»)) x (t .comparator)
 
-        go : (b : Bool) → cond b (withSet (withPeriod (withComparator t y) x) 0) (withComparator t x) .comparator ≡ cond b y x
+        go : (b : Bool) → cond b (withSet (withPeriod (withComparator t y) (reduced (narrowed t) p)) 0) (withComparator t x) .comparator ≡ cond b y x
+        go true = refl
+        go false = refl
+
+    pub period-is : setOf t c p .period ≡ cond (flag (t .periodic)) (reduced (narrowed t) p) (t .period)
+    unfolding setOf
+    period-is = go (flag (t .periodic))
+      where
+        x : ℕ
+        x = reduced (narrowed t) c
+
+        y : ℕ
+        y = reduced (narrowed t) p
+
+        go : (b : Bool) → cond b (withSet (withPeriod (withComparator t (cond (flag (t .«set_comparator»)) x (t .comparator))) y) 0) (withComparator t x) .period ≡ cond b y (t .period)
         go true = refl
         go false = refl
 
     -- by the two bits of the configuration
     compared-by :
-        (p q : ℕ) → configurationOf t / 2 ^ 3 % 2 ≡ p → configurationOf t / 2 ^ 6 % 2 ≡ q →
-        comparedOf t v .comparator ≡ cond (flag p) (cond (flag q) (reduced (narrowed t) v) (t .comparator)) (reduced (narrowed t) v)
-    compared-by p q e f =
+        (m q : ℕ) → configurationOf t / 2 ^ 3 % 2 ≡ m → configurationOf t / 2 ^ 6 % 2 ≡ q →
+        setOf t c p .comparator ≡ cond (flag m) (cond (flag q) (reduced (narrowed t) c) (t .comparator)) (reduced (narrowed t) c)
+    compared-by m q e f =
         comparator-is
-        ∙ ap (λ (n : ℕ). cond (flag n) (cond (flag (t .«set_comparator»)) (reduced (narrowed t) v) (t .comparator)) (reduced (narrowed t) v)) (sym (configuration-reads .periodic) ∙ e)
-        ∙ ap (λ (n : ℕ). cond (flag p) (cond (flag n) (reduced (narrowed t) v) (t .comparator)) (reduced (narrowed t) v)) (sym (configuration-reads .set) ∙ f)
+        ∙ ap (λ (n : ℕ). cond (flag n) (cond (flag (t .«set_comparator»)) (reduced (narrowed t) c) (t .comparator)) (reduced (narrowed t) c)) (sym (configuration-reads .periodic) ∙ e)
+        ∙ ap (λ (n : ℕ). cond (flag m) (cond (flag n) (reduced (narrowed t) c) (t .comparator)) (reduced (narrowed t) c)) (sym (configuration-reads .set) ∙ f)
 
     -- "One-shot: the write sets it."
-    pub one-shot-back : configurationOf t / 2 ^ 3 % 2 ≡ 0 → comparedOf t v .comparator ≡ cond (eqb (configurationOf t / 2 ^ 8 % 2) 1) (v % 2 ^ 32) v
+    pub one-shot-back : configurationOf t / 2 ^ 3 % 2 ≡ 0 → setOf t c p .comparator ≡ cond (eqb (configurationOf t / 2 ^ 8 % 2) 1) (c % 2 ^ 32) c
     one-shot-back e = compared-by 0 (configurationOf t / 2 ^ 6 % 2) e refl ∙ taken
 
     -- "Periodic: the write sets the period, and also the comparator if bit 6 is 1"
-    pub set-back : configurationOf t / 2 ^ 6 % 2 ≡ 1 → comparedOf t v .comparator ≡ cond (eqb (configurationOf t / 2 ^ 8 % 2) 1) (v % 2 ^ 32) v
+    pub set-back : configurationOf t / 2 ^ 6 % 2 ≡ 1 → setOf t c p .comparator ≡ cond (eqb (configurationOf t / 2 ^ 8 % 2) 1) (c % 2 ^ 32) c
     set-back f = compared-by 1 1 (configuration-reads .periodic ∙ z .set-periodic (λ q. omega (arith, sym (configuration-reads .set) ∙ f))) f ∙ taken
 
-    pub period-back : configurationOf t / 2 ^ 3 % 2 ≡ 1 → configurationOf t / 2 ^ 6 % 2 ≡ 0 → comparedOf t v .comparator ≡ t .comparator
+    pub period-back : configurationOf t / 2 ^ 3 % 2 ≡ 1 → configurationOf t / 2 ^ 6 % 2 ≡ 0 → setOf t c p .comparator ≡ t .comparator
     period-back = compared-by 1 0
 
     -- a set-comparator bit stands on a periodic timer only
@@ -134,12 +152,12 @@ module _ (t : Timer) (z : Formed t) where
         go (yes q) = ap (λ (n : ℕ). boolByte (flag n)) q
         go (no n) = absurd (omega (arith, eqb-false (t .periodic) 1 e, z .set-periodic n))
 
-    without-set : configurationOf (comparedOf t v) ≡ fields (t .route) (t .narrow) 0 (t .periodic) (t .interrupt) (t .«level_type»)
-    unfolding comparedOf configurationOf
+    without-set : configurationOf (setOf t c p) ≡ fields (t .route) (t .narrow) 0 (t .periodic) (t .interrupt) (t .«level_type»)
+    unfolding setOf configurationOf
     without-set = go (flag (t .periodic)) refl
       where
         x : ℕ
-        x = reduced (narrowed t) v
+        x = reduced (narrowed t) c
 
         y : ℕ
         y = cond (flag (t .«set_comparator»)) x (t .comparator)
@@ -156,13 +174,13 @@ module _ (t : Timer) (z : Formed t) where
 
         go :
             (b : Bool) → flag (t .periodic) ≡ b →
-            configurationOf (cond b (withSet (withPeriod (withComparator t y) x) 0) (withComparator t x)) ≡ fields (t .route) (t .narrow) 0 (t .periodic) (t .interrupt) (t .«level_type»)
+            configurationOf (cond b (withSet (withPeriod (withComparator t y) (reduced (narrowed t) p)) 0) (withComparator t x)) ≡ fields (t .route) (t .narrow) 0 (t .periodic) (t .interrupt) (t .«level_type»)
         go true e = bits
         go false e = ap placed (unset false e) ∙ bits
 
     -- "bit 6 then becomes 0"; the other bits stay
-    pub compared-configuration : configurationOf (comparedOf t v) + configurationOf t / 2 ^ 6 % 2 * 2 ^ 6 ≡ configurationOf t
-    compared-configuration =
+    pub set-configuration : configurationOf (setOf t c p) + configurationOf t / 2 ^ 6 % 2 * 2 ^ 6 ≡ configurationOf t
+    set-configuration =
         ap₂ (λ (a b : ℕ). a + b * 2 ^ 6) without-set (configuration-reads .set)
         ∙ put (t .route) (t .narrow) (t .«set_comparator») (t .periodic) (t .interrupt) (t .«level_type»)
         ∙ sym configuration-is
@@ -187,13 +205,15 @@ module _ (t : Timer) where
   cleared-comparator = refl
 
   -- a comparator write leaves the status
-  pub compared-status : (v : ℕ) → comparedOf t v .status ≡ t .status
-  unfolding comparedOf
-  compared-status v = go (flag (t .periodic))
+  pub set-status : (c p : ℕ) → setOf t c p .status ≡ t .status
+  unfolding setOf
+  set-status c p = go (flag (t .periodic))
     where
       x : ℕ
-      x = reduced (narrowed t) v
+      x = reduced (narrowed t) c
 
-      go : (b : Bool) → cond b (withSet (withPeriod (withComparator t (cond (flag (t .«set_comparator»)) x (t .comparator))) x) 0) (withComparator t x) .status ≡ t .status
+      go :
+          (b : Bool) →
+          cond b (withSet (withPeriod (withComparator t (cond (flag (t .«set_comparator»)) x (t .comparator))) (reduced (narrowed t) p)) 0) (withComparator t x) .status ≡ t .status
       go true = refl
       go false = refl

@@ -1,10 +1,11 @@
--- What a firing does to the wire of the timer's pin.
+-- What a firing, and a write to the comparator, do to the wire of the timer's pin.
 use Prim.Native.Nat.{ℕ}
 use mathlib.Core.Path.{_≡_, refl, sym, ap, subst}
 use mathlib.Core.Bool.{Bool, true, false, cond, not, _&&_, _||_}
 use lib.Dec.{T, eqb}
 use Rattle.timer.specs.declared.Timer.{Timer}
-use Rattle.timer.specs.State.{flag}
+use Rattle.timer.specs.State.{flag, reduced, narrowed, withComparator, withPeriod, withSet}
+use Rattle.timer.specs.Registers.{setOf}
 use Rattle.timer.specs.Tick.{firing, pulsing, driving}
 use Rattle.timer.specs.Inner.{raising, holding}
 
@@ -86,3 +87,17 @@ module _ (t : Timer) where
         go true true s r e = and-right (flag s) r e
         go true false s r e = e
         go false i s r e = e
+
+-- a write to the comparator register moves no wire
+pub set-driving : (t : Timer) (c p pin : ℕ) → driving (setOf t c p) pin ≡ driving t pin
+unfolding setOf driving
+set-driving t c p pin = go (flag (t .periodic))
+  where
+    x : ℕ
+    x = reduced (narrowed t) c
+
+    go :
+        (b : Bool) →
+        driving (cond b (withSet (withPeriod (withComparator t (cond (flag (t .«set_comparator»)) x (t .comparator))) (reduced (narrowed t) p)) 0) (withComparator t x)) pin ≡ driving t pin
+    go true = refl
+    go false = refl

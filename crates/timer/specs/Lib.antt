@@ -1,5 +1,6 @@
 pub mod State
 pub mod Formed
+pub mod Halves
 pub mod Registers
 pub mod Tick
 pub mod Alone

@@ -4,6 +4,8 @@ use mathlib.Core.Bool.{cond}
 use lib.Dec.{ltb}
 use mir.Val.{boolByte}
 use Rattle.timer.specs.declared.Timer.{Timer}
+use Rattle.timer.specs.declared.Half.{Half}
+use Rattle.timer.specs.Halves.{replaced}
 use Rattle.timer.specs.State.{flag, reduced, narrowed, withStatus, withComparator, withPeriod, withRoute, withSet, withModes}
 
 -- bit k of a number
@@ -39,13 +41,24 @@ configuredOf t v =
 
 -- ---- the comparator. In 32-bit mode the written number is first reduced modulo 2^32
 
--- one-shot: the write sets it. Periodic: the write sets the period, and also the comparator if bit 6 is 1; bit 6 then becomes 0
-unfoldable pub comparedOf : Timer → ℕ → Timer
-comparedOf t v =
-    let x = reduced (narrowed t) v in
+-- one-shot: the write sets it. Periodic: the write sets the period, and also the comparator if bit 6 is 1; bit 6 then becomes 0.
+-- Told what it makes of each of the two, since in halves that is not the same number
+unfoldable pub setOf : Timer → ℕ → ℕ → Timer
+setOf t comparator period =
+    let x = reduced (narrowed t) comparator in
+    let y = reduced (narrowed t) period in
     cond (flag (t .periodic))
-    (withSet (withPeriod (withComparator t (cond (flag (t .«set_comparator»)) x (t .comparator))) x) 0)
+    (withSet (withPeriod (withComparator t (cond (flag (t .«set_comparator»)) x (t .comparator))) y) 0)
     (withComparator t x)
+
+-- the whole register: the written number, whichever is set
+abbrev pub comparedOf : Timer → ℕ → Timer
+comparedOf t v = setOf t v v
+
+-- a half: replaced in whatever the whole write would set, comparator, period or both. Bit 6 clears at the first half,
+-- since each is a write; a high half in 32-bit mode stores 0, since the number with that half replaced is reduced
+abbrev pub halfComparedOf : Timer → Half → ℕ → Timer
+halfComparedOf t h v = setOf t (replaced h (t .comparator) v) (replaced h (t .period) v)
 
 -- ---- the status: writing 1 to it clears it
 

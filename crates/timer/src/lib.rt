@@ -1,4 +1,5 @@
 // One timer of the block, by value: its registers, its firing, and many ticks of it at once.
+mod in_halves;
 mod registers;
 mod tick;
 
@@ -25,6 +26,12 @@ pub struct Timer {
     // 32-bit mode
     pub narrow: u8,
     pub status: u8,
+}
+
+// Which half of a register a 4-byte access names: bits 31:0 or bits 63:32.
+pub enum Half {
+    Low,
+    High,
 }
 
 // A timer after many ticks: itself, how often it fired, and at which tick first, from 1 (0: not at all).

@@ -1,6 +1,7 @@
 // The registers of a timer.
 ghost use mathlib.Core.Path.{_≡_};
-ghost use Rattle.timer.specs.Registers.{configurationOf, configuredOf, comparedOf, clearedOf};
+ghost use Rattle.timer.specs.Registers.{configurationOf, configuredOf, setOf, comparedOf, halfComparedOf, clearedOf};
+use crate::Half;
 use crate::Timer;
 use crate::bit;
 use crate::choose;
@@ -42,20 +43,36 @@ impl Timer {
         }
     }
 
-    // A write to its comparator register.
-    pub fn compared(self, value: u64) -> Timer
-        ensures { λ r. ⌜ r ≡ comparedOf self value ⌝ }
+    // A write to its comparator register that makes one number of the comparator, and one of the period.
+    fn set(self, comparator: u64, period: u64) -> Timer
+        ensures { λ r. ⌜ r ≡ setOf self comparator period ⌝ }
     {
-        let x = reduced(self.narrow == 1, value);
+        let x = reduced(self.narrow == 1, comparator);
         let mut t = self;
         if self.periodic == 1 {
             t.comparator = choose(self.set_comparator == 1, x, self.comparator);
-            t.period = x;
+            t.period = reduced(self.narrow == 1, period);
             t.set_comparator = 0;
             return t;
         }
         t.comparator = x;
         t
+    }
+
+    // A write to its comparator register.
+    pub fn compared(self, value: u64) -> Timer
+        ensures { λ r. ⌜ r ≡ comparedOf self value ⌝ }
+    {
+        self.set(value, value)
+    }
+
+    // A write to a half of its comparator register: comparator and period each keep their own other half.
+    pub fn compared_half(self, half: Half, value: u32) -> Timer
+        ensures { λ r. ⌜ r ≡ halfComparedOf self half value ⌝ }
+    {
+        let comparator = half.replaced(self.comparator, value);
+        let period = half.replaced(self.period, value);
+        self.set(comparator, period)
     }
 
     // A write of 1 to its status.

@@ -1,7 +1,7 @@
 -- Accesses as the code takes them: by the offset, and a call's refusals.
 use Prim.Native.Nat.{ℕ, _+_, _*_, _/_, _%_, _^_, _≤_, _<_}
 use mathlib.Core.Path.{_≡_, refl, sym, ap, _∙_}
-use mathlib.Core.Bool.{Bool, true, false, cond}
+use mathlib.Core.Bool.{Bool, true, false, cond, _&&_}
 use mathlib.Core.List.{[], _∷_}
 use native.Mathlib.Omega.{arith}
 use native.Mathlib.Decide.{ℕ-discrete}
@@ -15,11 +15,13 @@ use Rattle.answers.specs.declared.Refusal.the-variants as refusal
 use Rattle.answers.specs.declared.Answer.the-variants as answer
 use Rattle.timer.specs.declared.Timer.{Timer}
 use Rattle.timer.specs.State.{flag}
+use Rattle.timer.specs.Halves.{halfOf}
 use Rattle.timer.specs.Registers.{bit, placed, configuredOf, comparedOf, clearedOf}
 use Rattle.timers.specs.declared.Timers.{Timers}
 use Rattle.timers.specs.State.{at, isEnabled, withCounter, withEnabled, withList, withTimers, withTimer}
 use Rattle.timers.specs.Formed.{wellFormed}
 use Rattle.timers.specs.Registers.{aligned, numbered, statusOf, timerRegister, registerOf, clearedBy, timerWritten, writtenOf}
+use Rattle.timers.specs.Registers.{fits, halfAt, wholeAt, halfWritten, shownOf, storedOf}
 use Rattle.timers.specs.Inner.{timerPut}
 use Rattle.timers.proofs.Three.{three-same, eta}
 use Rattle.timers.specs.Call.{turn, refused, readingOf, writingOf, readOf, writeOf}
@@ -101,6 +103,19 @@ module _ (s : Timers) (o : ℕ) where
     unfolding writtenOf
     write-counter e = rw e
 
+-- ---- which accesses there are
+
+module _ (w o : ℕ) where
+  pub aligned-whole : w ≡ 8 → aligned w o ≡ eqb (o % 8) 0
+  aligned-whole e = rw e
+
+  pub aligned-half : (w ≡ 8 → ⊥) → aligned w o ≡ (eqb w 4 && eqb (o % 4) 0)
+  aligned-half n = go (ℕ-discrete w 4)
+    where
+      go : Dec (w ≡ 4) → aligned w o ≡ (eqb w 4 && eqb (o % 4) 0)
+      go (yes e) = rw e
+      go (no d) = rw (ne-eqb w 4 d, ne-eqb w 8 n)
+
 -- ---- refusals
 
 module _ (s : Timers) (w o : ℕ) where
@@ -112,9 +127,17 @@ module _ (s : Timers) (w o : ℕ) where
   unfolding readingOf
   reading-offset e l = rw (e, le-ltb o 0x400 l)
 
-  pub reading-done : aligned w o ≡ true → o < 0x400 → readingOf s w o ≡ turn s (answer.Value (registerOf s o))
+  pub reading-done : aligned w o ≡ true → o < 0x400 → readingOf s w o ≡ turn s (answer.Value (shownOf s w o))
   unfolding readingOf
   reading-done e l = rw (e, lt-ltb o 0x400 l)
+
+  pub shown-whole : w ≡ 8 → shownOf s w o ≡ registerOf s o
+  unfolding shownOf
+  shown-whole e = rw (eq-eqb w 8 e)
+
+  pub shown-half : (w ≡ 8 → ⊥) → shownOf s w o ≡ halfOf (halfAt o) (registerOf s (wholeAt o))
+  unfolding shownOf
+  shown-half n = rw (ne-eqb w 8 n)
 
   pub read-refused : wellFormed s ≡ false → readOf s w o ≡ refused s refusal.State
   unfolding readOf
@@ -133,9 +156,21 @@ module _ (s : Timers) (w o : ℕ) where
     unfolding writingOf
     writing-offset e l = rw (e, le-ltb o 0x400 l)
 
-    pub writing-done : aligned w o ≡ true → o < 0x400 → writingOf s w o v ≡ turn (writtenOf s o v) answer.Done
+    pub writing-value : aligned w o ≡ true → o < 0x400 → fits w v ≡ false → writingOf s w o v ≡ refused s refusal.Value
     unfolding writingOf
-    writing-done e l = rw (e, lt-ltb o 0x400 l)
+    writing-value e l f = rw (e, lt-ltb o 0x400 l, f)
+
+    pub writing-done : aligned w o ≡ true → o < 0x400 → fits w v ≡ true → writingOf s w o v ≡ turn (storedOf s w o v) answer.Done
+    unfolding writingOf
+    writing-done e l f = rw (e, lt-ltb o 0x400 l, f)
+
+    pub stored-whole : w ≡ 8 → storedOf s w o v ≡ writtenOf s o v
+    unfolding storedOf
+    stored-whole e = rw (eq-eqb w 8 e)
+
+    pub stored-half : (w ≡ 8 → ⊥) → storedOf s w o v ≡ halfWritten s (halfAt o) (wholeAt o) v
+    unfolding storedOf
+    stored-half n = rw (ne-eqb w 8 n)
 
     pub write-refused : wellFormed s ≡ false → writeOf s w o v ≡ refused s refusal.State
     unfolding writeOf
@@ -171,6 +206,10 @@ module _ (s : Timers) (o v : ℕ) where
       go (yes q) = rw (eq-eqb n i (sym q), eq-eqb i n q) (ap (λ (k : ℕ). f (at s k)) q)
       go (no d) = rw (ne-eqb n i (λ e. d (sym e)), ne-eqb i n d)
 
+  -- so the block with one timer changed
+  one-each : (f : Timer → Timer) → withTimers s (λ i. cond (eqb n i) (f (at s i)) (at s i)) ≡ withTimer s n (f (at s n))
+  one-each f = ap (withList s) (three-same (λ i. cond (eqb n i) (f (at s i)) (at s i)) (λ i. cond (eqb i n) (f (at s n)) (at s i)) (λ i h. asked f i))
+
   written-each : length (s .timer) ≡ 3 → withTimers s (λ i. timerPut (at s i) (eqb n i) (o % 0x20) v) ≡ timerWritten s o v
   unfolding timerPut timerWritten
   written-each l = go (eqb (o % 0x20) 0) (eqb (o % 0x20) 8)
@@ -182,18 +221,23 @@ module _ (s : Timers) (o v : ℕ) where
       by : (Timer → Timer) → ℕ → Timer
       by f i = cond (eqb n i) (f (at s i)) (at s i)
 
-      to : (Timer → Timer) → ℕ → Timer
-      to f i = cond (eqb i n) (f (at s n)) (at s i)
-
       go :
           (x y : Bool) →
           withTimers s (by (λ t. cond x (configuredOf t v) (cond y (comparedOf t v) t)))
           ≡ cond x (withTimer s n (configuredOf (at s n) v)) (cond y (withTimer s n (comparedOf (at s n) v)) s)
-      go true y = ap (withList s) (three-same (by (λ t. configuredOf t v)) (to (λ t. configuredOf t v)) (λ i h. asked (λ t. configuredOf t v) i))
-      go false true = ap (withList s) (three-same (by (λ t. comparedOf t v)) (to (λ t. comparedOf t v)) (λ i h. asked (λ t. comparedOf t v) i))
+      go true y = one-each (λ t. configuredOf t v)
+      go false true = one-each (λ t. comparedOf t v)
       go false false = ap (withList s) (three-same (by (λ t. t)) (at s) (λ i h. same (eqb n i) (at s i))) ∙ sym (eta s l)
 
   pub written-code :
       length (s .timer) ≡ 3 → (x0 x1 x2 : Timer) → x0 ≡ timerPut (at s 0) (eqb n 0) (o % 0x20) v → x1 ≡ timerPut (at s 1) (eqb n 1) (o % 0x20) v →
       x2 ≡ timerPut (at s 2) (eqb n 2) (o % 0x20) v → withList s (x0 ∷ x1 ∷ x2 ∷ []) ≡ timerWritten s o v
   written-code l x0 x1 x2 e0 e1 e2 = (λ i. withList s (e0 i ∷ e1 i ∷ e2 i ∷ [])) ∙ written-each l
+
+-- ---- a write to a half of a timer's comparator: each timer is asked, as for the whole
+
+pub half-code :
+    (s : Timers) (o : ℕ) (f : Timer → Timer) (x0 x1 x2 : Timer) → x0 ≡ cond (eqb (numbered o) 0) (f (at s 0)) (at s 0) →
+    x1 ≡ cond (eqb (numbered o) 1) (f (at s 1)) (at s 1) → x2 ≡ cond (eqb (numbered o) 2) (f (at s 2)) (at s 2) →
+    withList s (x0 ∷ x1 ∷ x2 ∷ []) ≡ withTimer s (numbered o) (f (at s (numbered o)))
+half-code s o f x0 x1 x2 e0 e1 e2 = (λ i. withList s (e0 i ∷ e1 i ∷ e2 i ∷ [])) ∙ one-each s o 0 f

@@ -12,7 +12,7 @@ use Rattle.answers.proofs.Order.{Decided, done-decided, refused-decided, then-d
 use Rattle.timers.specs.declared.Timers.{Timers}
 use Rattle.timers.specs.declared.Turn.{Turn}
 use Rattle.timers.specs.Formed.{wellFormed}
-use Rattle.timers.specs.Registers.{aligned, inside, registerOf, writtenOf}
+use Rattle.timers.specs.Registers.{aligned, inside, fits, shownOf, storedOf}
 use Rattle.timers.specs.Tick.{ticks, firings}
 use Rattle.timers.specs.Call.{refused, accessed, readingOf, writingOf, advancingOf, readOf, writeOf, advanceOf}
 use Rattle.timers.specs.Calls.{Call, read, write, advance, turnOf, readTests, writeTests, testsOf}
@@ -32,11 +32,13 @@ module _ (s : Timers) where
 
   pub reading-decided : (w o : ℕ) → DecidedTurn s (readTests w o) (readingOf s w o)
   unfolding readingOf numbersOf
-  reading-decided w o = accessed-decided w o [] _ (done-decided s s (answer.Value (registerOf s o)) refl)
+  reading-decided w o = accessed-decided w o [] _ (done-decided s s (answer.Value (shownOf s w o)) refl)
 
   pub writing-decided : (w o v : ℕ) → DecidedTurn s (writeTests w o v) (writingOf s w o v)
-  unfolding writingOf numbersOf
-  writing-decided w o v = accessed-decided w o [] _ (done-decided s (writtenOf s o v) answer.Done refl)
+  unfolding writingOf numbersOf numberOf
+  writing-decided w o v =
+      accessed-decided w o (test 4 (not (fits w v)) ∷ []) _
+      (then 4 [] refusal.Value _ (fits w v) refl (done-decided s (storedOf s w o v) answer.Done refl))
 
   advancing-decided : (n : ℕ) → DecidedTurn s [] (advancingOf s n)
   unfolding advancingOf numbersOf

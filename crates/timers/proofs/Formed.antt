@@ -7,17 +7,19 @@ use lib.Dec.{eqb, leb, ltb, lit<, lit≤}
 use borrow.Author.Tests.{leb-true, le-leb, ltb-true}
 use Rattle.pins.proofs.Bools.{and-left, and-right, and-both}
 use Rattle.timer.specs.declared.Timer.{Timer}
+use Rattle.timer.specs.declared.Half.{Half}
 use Rattle.timer.specs.State.{flag, resetTimer}
 use Rattle.timer.specs.Formed.{timerFormed}
-use Rattle.timer.specs.Registers.{bit, configuredOf, comparedOf, clearedOf}
+use Rattle.timer.specs.Registers.{bit, configuredOf, comparedOf, halfComparedOf, clearedOf}
 use Rattle.timer.specs.Tick.{firing}
 use Rattle.timer.proofs.Formed.{formed-in as timer-in, formed-out as timer-out}
-use Rattle.timer.proofs.Kept.{firing-formed, configured-formed, compared-formed, cleared-formed, reset-formed as reset-timer-formed}
+use Rattle.timer.proofs.Kept.{firing-formed, configured-formed, set-formed, cleared-formed, reset-formed as reset-timer-formed}
 use Rattle.timers.specs.declared.Timers.{Timers}
 use Rattle.timers.specs.declared.Turn.{Turn}
 use Rattle.timers.specs.State.{at, isEnabled, withCounter, withEnabled, withTimers, withTimer, resetTimers}
 use Rattle.timers.specs.Formed.{wellFormed, Formed}
-use Rattle.timers.specs.Registers.{isConfiguration, isComparator, ofTimer, numbered, aligned, inside, clearedBy, timerWritten, writtenOf, registerOf}
+use Rattle.timers.specs.Registers.{isConfiguration, isComparator, ofTimer, numbered, aligned, inside, fits, clearedBy, timerWritten, writtenOf}
+use Rattle.timers.specs.Registers.{halfAt, wholeAt, filled, halfWritten, shownOf, storedOf}
 use Rattle.timers.specs.Tick.{countedOf, firedOf, turnedOf, upTo, tick, ticks, routeOf}
 use Rattle.timers.specs.Call.{turn, refused, readingOf, writingOf, readOf}
 use Rattle.answers.specs.declared.Refusal.the-variants as refusal
@@ -139,7 +141,7 @@ module _ (s : Timers) (e : wellFormed s ≡ true) (v : ℕ) where
 
       go : (a b : Bool) → wellFormed (cond a (withTimer s n (configuredOf (at s n) v)) (cond b (withTimer s n (comparedOf (at s n) v)) s)) ≡ true
       go true b = with-timer-formed s e n (configuredOf (at s n) v) (configured-formed (at s n) (at-formed s e n l) v)
-      go false true = with-timer-formed s e n (comparedOf (at s n) v) (compared-formed (at s n) (at-formed s e n l) v)
+      go false true = with-timer-formed s e n (comparedOf (at s n) v) (set-formed (at s n) (at-formed s e n l) v v)
       go false false = e
 
   pub written-formed : (o : ℕ) → wellFormed (writtenOf s o v) ≡ true
@@ -163,6 +165,31 @@ module _ (s : Timers) (e : wellFormed s ≡ true) (v : ℕ) where
       go false false false true q = timer-written-formed o (in-three q)
       go false false false false q = e
 
+-- ---- halves, and a write of either width
+
+module _ (s : Timers) (e : wellFormed s ≡ true) where
+  pub half-written-formed : (h : Half) (o v : ℕ) → wellFormed (halfWritten s h o v) ≡ true
+  unfolding halfWritten
+  half-written-formed h o v = go (ofTimer o && isComparator o) refl
+    where
+      n : ℕ
+      n = numbered o
+
+      in-three : (ofTimer o && isComparator o) ≡ true → n < 3
+      in-three q = omega (arith, ltb-true o 0x160 (and-right (leb 0x100 o) (ltb o 0x160) (and-left (ofTimer o) (isComparator o) q)))
+
+      go : (b : Bool) → (ofTimer o && isComparator o) ≡ b → wellFormed (cond b (withTimer s n (halfComparedOf (at s n) h v)) (writtenOf s o (filled s h o v))) ≡ true
+      go true q = with-timer-formed s e n (halfComparedOf (at s n) h v) (set-formed (at s n) (at-formed s e n (in-three q)) _ _)
+      go false q = written-formed s e (filled s h o v) o
+
+  stored-formed : (w o v : ℕ) → wellFormed (storedOf s w o v) ≡ true
+  unfolding storedOf
+  stored-formed w o v = go (eqb w 8)
+    where
+      go : (b : Bool) → wellFormed (cond b (writtenOf s o v) (halfWritten s (halfAt o) (wholeAt o) v)) ≡ true
+      go true = written-formed s e v o
+      go false = half-written-formed (halfAt o) (wholeAt o) v
+
 -- ---- the calls
 
 module _ (s : Timers) (w o : ℕ) where
@@ -171,7 +198,7 @@ module _ (s : Timers) (w o : ℕ) where
   unfolding readingOf
   reading-timers = go (aligned w o) (inside o)
     where
-      go : (a b : Bool) → cond {A = Turn} a (cond b (turn s (answer.Value (registerOf s o))) (refused s refusal.Offset)) (refused s refusal.Width) .timers ≡ s
+      go : (a b : Bool) → cond {A = Turn} a (cond b (turn s (answer.Value (shownOf s w o))) (refused s refusal.Offset)) (refused s refusal.Width) .timers ≡ s
       go true true = refl
       go true false = refl
       go false b = refl
@@ -187,9 +214,17 @@ module _ (s : Timers) (w o : ℕ) where
   module _ (e : wellFormed s ≡ true) (v : ℕ) where
     pub writing-formed : wellFormed (writingOf s w o v .timers) ≡ true
     unfolding writingOf
-    writing-formed = go (aligned w o) (inside o)
+    writing-formed = go (aligned w o) (inside o) (fits w v)
       where
-        go : (a b : Bool) → wellFormed (cond {A = Turn} a (cond b (turn (writtenOf s o v) answer.Done) (refused s refusal.Offset)) (refused s refusal.Width) .timers) ≡ true
-        go true true = written-formed s e v o
-        go true false = e
-        go false b = e
+        go :
+            (a b c : Bool) →
+            wellFormed
+            (cond {A = Turn} a
+            (cond b (cond c (turn (storedOf s w o v) answer.Done) (refused s refusal.Value)) (refused s refusal.Offset))
+            (refused s refusal.Width)
+            .timers)
+            ≡ true
+        go true true true = stored-formed s e w o v
+        go true true false = e
+        go true false c = e
+        go false b c = e

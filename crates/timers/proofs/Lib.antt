@@ -11,8 +11,12 @@
 -- Formed     formed-in, formed-out, at-formed, route-pin; kept by counted-, fired-, turned-, turns-, tick-, ticks-, written-, writing-formed,
 --            reset-formed; reading-timers, read-timers
 -- Decided    what the tests decide of a call: reading-decided, writing-decided, decided
--- Access     what each offset reads and writes; reading-, writing- with -width, -offset, -done
+-- Access     what each offset reads and writes; reading-, writing- with -width, -offset, -value, -done; shown- and stored- with -whole, -half
 -- Places     the offsets that there are: what each reads, what a write to it does; Unlisted
+-- Stored     accesses of both widths as the code takes them
+-- Halves     where the halves of a register lie, and each half by the rule for the whole: half-reads, half-writes, half-replaces, ..
+-- LowOnly    registers whose low half is all that can be written
+-- InHalves   the counter and a comparator, one half and then the other
 -- ReadBack   a read after a write to the same offset
 -- Others     what a write leaves of the other registers
 -- Advance    what an advance answers: advance-ticked, advance-timers, advance-fired
@@ -37,3 +41,7 @@ pub mod Demands
 pub mod Places
 pub mod ReadBack
 pub mod Others
+pub mod Stored
+pub mod Halves
+pub mod LowOnly
+pub mod InHalves

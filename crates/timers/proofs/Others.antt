@@ -8,7 +8,7 @@ use borrow.Author.Tests.{eqb-true}
 use Rattle.timer.specs.declared.Timer.{Timer}
 use Rattle.timer.specs.State.{flag, blank}
 use Rattle.timer.specs.Registers.{bit, placed, configurationOf, configuredOf, comparedOf, clearedOf}
-use Rattle.timer.proofs.ReadBack.{cleared-configuration, cleared-comparator, compared-status}
+use Rattle.timer.proofs.ReadBack.{cleared-configuration, cleared-comparator, set-status}
 use Rattle.timers.specs.declared.Timers.{Timers}
 use Rattle.timers.specs.State.{at, isEnabled, withCounter, withEnabled, withTimers, withTimer}
 use Rattle.timers.specs.Registers.{statusOf, registerOf, clearedBy, writtenOf}
@@ -80,7 +80,7 @@ module _ (s : Timers) (v o : ℕ) where
     same-status m = go (eqb m n) refl
       where
         go : (b : Bool) → eqb m n ≡ b → cond b (comparedOf (at s n) v) (at s m) .status ≡ at s m .status
-        go true e = compared-status (at s n) v ∙ sym (ap (λ (k : ℕ). at s k .status) (eqb-true m n e))
+        go true e = set-status (at s n) v v ∙ sym (ap (λ (k : ℕ). at s k .status) (eqb-true m n e))
         go false e = refl
 
     pub comparator-leaves : (o ≡ 0x100 + 0x20 * n → ⊥) → (o ≡ 0x108 + 0x20 * n → ⊥) → registerOf (writtenOf s (0x108 + 0x20 * n) v) o ≡ registerOf s o

@@ -10,7 +10,7 @@ use borrow.Author.Tests.{eqb-true}
 use Rattle.timer.specs.declared.Timer.{Timer}
 use Rattle.timer.specs.State.{flag}
 use Rattle.timer.specs.Registers.{bit, configurationOf, configuredOf, comparedOf, clearedOf}
-use Rattle.timer.proofs.ReadBack.{fields, flag-is, cleared-status, configured-comparator, compared-configuration, configured-status, one-shot-back, set-back, period-back}
+use Rattle.timer.proofs.ReadBack.{fields, flag-is, cleared-status, configured-comparator, set-configuration, configured-status, one-shot-back, set-back, period-back}
 use Rattle.timer.proofs.ReadBack.{configuration-back as timer-configuration-back}
 use Rattle.timers.specs.declared.Timers.{Timers}
 use Rattle.timers.specs.State.{at, isEnabled, withCounter, withEnabled, withTimers}
@@ -175,20 +175,20 @@ module _ (s : Timers) (z : Formed s) (n : ℕ) (l : n < 3) (v : ℕ) where
 
   -- "One-shot: the write sets it."
   pub comparator-one-shot : now / 2 ^ 3 % 2 ≡ 0 → registerOf (writtenOf s (0x108 + 0x20 * n) v) (0x108 + 0x20 * n) ≡ cond (eqb (now / 2 ^ 8 % 2) 1) (v % 2 ^ 32) v
-  comparator-one-shot e = compared-read _ (one-shot-back t (z .each n l) v (ap (λ (x : ℕ). x / 2 ^ 3 % 2) was ∙ e) ∙ taken)
+  comparator-one-shot e = compared-read _ (one-shot-back t (z .each n l) v v (ap (λ (x : ℕ). x / 2 ^ 3 % 2) was ∙ e) ∙ taken)
 
   -- "Periodic: the write sets the period, and also the comparator if bit 6 is 1"
   pub comparator-set : now / 2 ^ 6 % 2 ≡ 1 → registerOf (writtenOf s (0x108 + 0x20 * n) v) (0x108 + 0x20 * n) ≡ cond (eqb (now / 2 ^ 8 % 2) 1) (v % 2 ^ 32) v
-  comparator-set e = compared-read _ (set-back t (z .each n l) v (ap (λ (x : ℕ). x / 2 ^ 6 % 2) was ∙ e) ∙ taken)
+  comparator-set e = compared-read _ (set-back t (z .each n l) v v (ap (λ (x : ℕ). x / 2 ^ 6 % 2) was ∙ e) ∙ taken)
 
   pub comparator-kept : now / 2 ^ 3 % 2 ≡ 1 → now / 2 ^ 6 % 2 ≡ 0 → registerOf (writtenOf s (0x108 + 0x20 * n) v) (0x108 + 0x20 * n) ≡ registerOf s (0x108 + 0x20 * n)
   comparator-kept e f =
       compared-read _
-      (period-back t (z .each n l) v (ap (λ (x : ℕ). x / 2 ^ 3 % 2) was ∙ e) (ap (λ (x : ℕ). x / 2 ^ 6 % 2) was ∙ f) ∙ sym (comparator-read n l s))
+      (period-back t (z .each n l) v v (ap (λ (x : ℕ). x / 2 ^ 3 % 2) was ∙ e) (ap (λ (x : ℕ). x / 2 ^ 6 % 2) was ∙ f) ∙ sym (comparator-read n l s))
 
   -- "bit 6 then becomes 0", and the other bits of the configuration stay
   pub comparator-unsets : registerOf (writtenOf s (0x108 + 0x20 * n) v) (0x100 + 0x20 * n) + now / 2 ^ 6 % 2 * 2 ^ 6 ≡ now
   comparator-unsets =
       ap₂ (λ (x y : ℕ). x + y / 2 ^ 6 % 2 * 2 ^ 6) (configuration-read n l (writtenOf s (0x108 + 0x20 * n) v) ∙ ap configurationOf compared-at) (sym was)
-      ∙ compared-configuration t (z .each n l) v
+      ∙ set-configuration t (z .each n l) v v
       ∙ was

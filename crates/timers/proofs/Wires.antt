@@ -37,9 +37,9 @@ and-more true a b f h = f h
 and-more false a b f h = h
 
 module _ (s s' : Timers) (p : ℕ) (e : s' .enabled ≡ s .enabled) where
-  drives-same : ((j : ℕ) → j < 3 → driving (at s' j) p ≡ driving (at s j) p) → drivesOf s' p ≡ drivesOf s p
+  pub drives-alike : ((j : ℕ) → j < 3 → driving (at s' j) p ≡ driving (at s j) p) → drivesOf s' p ≡ drivesOf s p
   unfolding drivesOf
-  drives-same f = λ i. flag (e i) && (f 0 (lit< tt) i || (f 1 (lit< tt) i || f 2 (lit< tt) i))
+  drives-alike f = λ i. flag (e i) && (f 0 (lit< tt) i || (f 1 (lit< tt) i || f 2 (lit< tt) i))
 
   drives-more : ((j : ℕ) → j < 3 → driving (at s j) p ≡ true → driving (at s' j) p ≡ true) → drivesOf s p ≡ true → drivesOf s' p ≡ true
   unfolding drivesOf
@@ -139,7 +139,7 @@ module _ (s : Timers) (m : ℕ) where
     -- no wire moves, where timer m had risen
     pub fired-drives-same : risenOf s m ≡ true → drivesOf (firedOf s m) p ≡ drivesOf s p
     unfolding risenOf
-    fired-drives-same q = drives-same s (firedOf s m) p (fired-enabled s m) (λ j l. by-firing (λ t. driving t p ≡ driving (at s j) p) j l (λ e. rw e (driving-same (at s m) p q)) refl)
+    fired-drives-same q = drives-alike s (firedOf s m) p (fired-enabled s m) (λ j l. by-firing (λ t. driving t p ≡ driving (at s j) p) j l (λ e. rw e (driving-same (at s m) p q)) refl)
 
     -- of an enabled block, the wires that it drives are those that it drove, and timer m's pin's, where the timer raises it
     pub fired-drives : m < 3 → isEnabled s ≡ true → drivesOf (firedOf s m) p ≡ drivesOf s p || (raisesOf s m && eqb (routeOf s m) p)

@@ -1,4 +1,4 @@
--- What each call answers, refusals in the paper's order: 5, 2, 1.
+-- What each call answers, refusals in the paper's order: 5, 2, 1, 4.
 use Prim.Native.Nat.{ℕ}
 use mathlib.Core.Bool.{cond}
 use Rattle.answers.specs.declared.Refusal.{Refusal}
@@ -8,7 +8,7 @@ use Rattle.answers.specs.declared.Answer.the-variants as answer
 use Rattle.timers.specs.declared.Timers.{Timers}
 use Rattle.timers.specs.declared.Turn.{Turn}
 use Rattle.timers.specs.Formed.{wellFormed}
-use Rattle.timers.specs.Registers.{aligned, inside, registerOf, writtenOf}
+use Rattle.timers.specs.Registers.{aligned, inside, fits, shownOf, storedOf}
 use Rattle.timers.specs.Tick.{ticks, firings}
 
 abbrev pub turn : Timers → Answer → Turn
@@ -25,10 +25,12 @@ accessed s width offset done = cond (aligned width offset) (cond (inside offset)
 -- ---- of a state that is well formed
 
 unfoldable pub readingOf : Timers → ℕ → ℕ → Turn
-readingOf s width offset = accessed s width offset (turn s (answer.Value (registerOf s offset)))
+readingOf s width offset = accessed s width offset (turn s (answer.Value (shownOf s width offset)))
 
+-- 4: a 4-byte write with a value above 4,294,967,295
 unfoldable pub writingOf : Timers → ℕ → ℕ → ℕ → Turn
-writingOf s width offset value = accessed s width offset (turn (writtenOf s offset value) answer.Done)
+writingOf s width offset value =
+    accessed s width offset (cond (fits width value) (turn (storedOf s width offset value) answer.Done) (refused s refusal.Value))
 
 unfoldable pub advancingOf : Timers → ℕ → Turn
 advancingOf s n = turn (ticks n s) (answer.Fired (firings 0 n s) (firings 1 n s) (firings 2 n s))

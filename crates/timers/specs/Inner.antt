@@ -1,13 +1,17 @@
 -- The same meanings as the code works them out, and what an advance of the board asks for: only inner functions cite these.
 use Prim.Native.Nat.{ℕ, zero, suc}
 use mathlib.Core.Bool.{Bool, cond, _&&_}
-use lib.Dec.{eqb}
+use lib.Dec.{eqb, ltb}
+use mir.Val.{boolByte}
 use Rattle.timer.specs.declared.Timer.{Timer}
-use Rattle.timer.specs.Registers.{configuredOf, comparedOf}
+use Rattle.timer.specs.declared.Half.{Half}
+use Rattle.timer.specs.Halves.{replaced}
+use Rattle.timer.specs.Registers.{configurationOf, configuredOf, comparedOf}
 use Rattle.timer.specs.Inner.{raising, holding}
 use Rattle.timers.specs.declared.Timers.{Timers}
 use Rattle.timers.specs.declared.Ran.{Ran}
 use Rattle.timers.specs.State.{three, at, isEnabled}
+use Rattle.timers.specs.Registers.{numbered}
 use Rattle.timers.specs.Tick.{firesIn, ticks, firings}
 
 -- ---- many ticks
@@ -38,3 +42,13 @@ raisesOf s m = raising (at s m)
 -- one timer after a write to a place among its registers, `hit` being whether it is the one that is written
 unfoldable pub timerPut : Timer → Bool → ℕ → ℕ → Timer
 timerPut t hit place v = cond hit (cond (eqb place 0) (configuredOf t v) (cond (eqb place 8) (comparedOf t v) t)) t
+
+-- what stands beside a half that is written, where it counts: the counter, the enable bit, a timer's configuration
+unfoldable pub besideOf : Timers → ℕ → ℕ
+besideOf s offset =
+    cond (eqb offset 0x0F0) (s .counter)
+    (cond (eqb offset 0x010) (boolByte (isEnabled s))
+    (cond (ltb offset 0x100) 0 (configurationOf (at s (numbered offset)))))
+
+abbrev pub filledBy : Timers → Half → ℕ → ℕ → ℕ
+filledBy s h offset v = replaced h (cond (eqb offset 0x020) 0 (besideOf s offset)) v

@@ -1,16 +1,18 @@
 // The timer block: three timers and their counter, by value.
+mod in_halves;
 mod tick;
 mod window;
 
 ghost use mathlib.Core.Path.{_≡_};
 ghost use mathlib.Core.Bool.{cond};
 ghost use Rattle.timer.specs.State.{flag};
-ghost use Rattle.timer.specs.Registers.{clearedOf};
+ghost use Rattle.timer.specs.Registers.{clearedOf, halfComparedOf};
 ghost use Rattle.timers.specs.State.{at, resetTimers};
 ghost use Rattle.timers.specs.Formed.{wellFormed};
 ghost use Rattle.timers.specs.Registers.{timerRegister};
 ghost use Rattle.timers.specs.Inner.{timerPut};
 use answers::Answer;
+use timer::Half;
 pub use timer::Timer;
 
 // `enabled` is 0 or 1: any other value is a state that is not well formed. No byte of it is padding.
@@ -67,8 +69,12 @@ impl Timers {
 
     // three timers
     pub const COUNT: usize = 3;
-    // every access is so many bytes wide, and its offset a multiple of it
+    // an access of a whole register is so many bytes wide, and its offset a multiple of that
     pub const WIDTH: u64 = 8;
+    // and of a half
+    pub const HALF_WIDTH: u64 = 4;
+    // 2^32: a 4-byte write's value is below it
+    pub const VALUE_END: u64 = 4294967296;
     // in the place of a pin, where a timer drives none
     pub const NO_PIN: u16 = 24;
 
@@ -141,4 +147,11 @@ fn put(t: Timer, hit: bool, place: u64, value: u64) -> Timer
         return t.compared(value);
     }
     t
+}
+
+// A timer after a write to a half of its comparator, if it is the one that is written.
+fn put_half(t: Timer, hit: bool, half: Half, value: u32) -> Timer
+    ensures { λ r. ⌜ r ≡ cond hit (halfComparedOf t half value) t ⌝ }
+{
+    if hit { t.compared_half(half, value) } else { t }
 }

@@ -4,7 +4,7 @@ ghost use Prim.Native.Nat.{_≤_};
 ghost use mathlib.Core.Bool.{cond};
 ghost use Rattle.timer.specs.Registers.{bit};
 ghost use Rattle.timers.specs.State.{isEnabled, withCounter, withEnabled, withTimers};
-ghost use Rattle.timers.specs.Registers.{aligned, clearedBy, statusOf, registerOf, timerWritten, writtenOf};
+ghost use Rattle.timers.specs.Registers.{aligned, fits, clearedBy, statusOf, registerOf, timerWritten, writtenOf};
 ghost use Rattle.timers.specs.Call.{refused, readingOf, writingOf, readOf, writeOf, advanceOf};
 use crate::Timers;
 use crate::Turn;
@@ -29,7 +29,7 @@ impl Timers {
     }
 
     // What an offset in the window reads.
-    fn register(self, offset: u64) -> u64
+    pub(crate) fn register(self, offset: u64) -> u64
         ensures { λ r. ⌜ r ≡ registerOf self offset ⌝ }
     {
         if offset == Timers::CAPABILITIES {
@@ -116,7 +116,7 @@ impl Timers {
     }
 
     // A write to an offset in the window.
-    fn written(self, offset: u64, value: u64) -> Timers
+    pub(crate) fn written(self, offset: u64, value: u64) -> Timers
         ensures { λ r. ⌜ r ≡ writtenOf self offset value ⌝ }
     {
         if offset == Timers::CONFIGURATION {
@@ -148,11 +148,21 @@ impl Timers {
         }
     }
 
-    // Width 8, offset a multiple of 8.
+    // Width 4 or 8, offset a multiple of the width.
     fn aligned(width: u64, offset: u64) -> bool
         ensures { λ r. ⌜ r ≡ aligned width offset ⌝ }
     {
-        (width == Timers::WIDTH) & (offset % Timers::WIDTH == 0)
+        if width == Timers::WIDTH {
+            return offset % Timers::WIDTH == 0;
+        }
+        (width == Timers::HALF_WIDTH) & (offset % Timers::HALF_WIDTH == 0)
+    }
+
+    // A 4-byte write's value is below 2^32.
+    fn fits(width: u64, value: u64) -> bool
+        ensures { λ r. ⌜ r ≡ fits width value ⌝ }
+    {
+        (width != Timers::HALF_WIDTH) | (value < Timers::VALUE_END)
     }
 
     pub fn reading(self, width: u64, offset: u64) -> Turn
@@ -166,7 +176,7 @@ impl Timers {
         }
         Turn {
             timers: self,
-            answer: Answer::Value(self.register(offset)),
+            answer: Answer::Value(self.shown(width, offset)),
         }
     }
 
@@ -179,8 +189,11 @@ impl Timers {
         if Timers::END <= offset {
             return self.refused(Refusal::Offset);
         }
+        if !Timers::fits(width, value) {
+            return self.refused(Refusal::Value);
+        }
         Turn {
-            timers: self.written(offset, value),
+            timers: self.stored(width, offset, value),
             answer: Answer::Done,
         }
     }

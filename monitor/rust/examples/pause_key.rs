@@ -1,7 +1,7 @@
 //! A monitor in Rust. It keeps the board in its own memory, and tells a story of it line by line: the same story as
 //! `monitor/examples/pause_key.c`, and the same lines, which stand in `monitor/examples/pause_key.out`.
 use nataqvoju::{Board, Interrupt, Refusal, Window};
-use nataqvoju::{COMPARATOR, CONFIGURATION, COUNTER, DATA, ENTRY, INDEX, TIMER, TIMER_STEP};
+use nataqvoju::{COMPARATOR, CONFIGURATION, COUNTER, DATA, ENTRY, HIGH_HALF, INDEX, TIMER, TIMER_STEP};
 
 const DRIVE: u64 = 9;
 const PAUSE: u64 = 14;
@@ -12,6 +12,7 @@ const LOGICAL: u32 = 0x0800;
 const INTERRUPT: u64 = 0x04;
 const PERIODIC: u64 = 0x08;
 const SET_COMPARATOR: u64 = 0x40;
+const NARROW: u64 = 0x100;
 const ROUTE_AT: u32 = 9;
 
 // ---- one line for each call: what was done, and the answer
@@ -118,12 +119,15 @@ fn refusals(board: &mut Board) {
     value("read of the controller, width 4, offset 0x04", board.read(Window::CONTROLLER, 4, 0x04));
     value("read of the timers, width 8, offset 0x400", board.read(Window::TIMERS, 8, 0x400));
     value("read of the controller, width 8, offset 0x04", board.read(Window::CONTROLLER, 8, 0x04));
-    value("read of the timers, width 4, offset 0x100", board.read(Window::TIMERS, 4, 0x100));
+    value("read of the timers, width 2, offset 0x100", board.read(Window::TIMERS, 2, 0x100));
     value("read of the timers, width 8, offset 0x104", board.read(Window::TIMERS, 8, 0x104));
+    value("read of the timers, width 4, offset 0x102", board.read(Window::TIMERS, 4, 0x102));
+    value("read of the timers, width 4, offset 0x404", board.read(Window::TIMERS, 4, 0x404));
     done("wire 24 high", board.wire(24, 1));
     done("wire 4000000000 to level 7", board.wire(4_000_000_000, 7));
     done("wire 0 to level 2", board.wire(0, 2));
     done("write of 4294967296 to the controller", board.write(Window::CONTROLLER, 4, DATA, 4_294_967_296));
+    done("write of 4294967296 to half a timer register", board.write(Window::TIMERS, 4, 0x10C, 4_294_967_296));
     same("the board", board, &saved);
 }
 
@@ -177,6 +181,21 @@ fn full_advance(board: &mut Board) {
     value("counter", board.read(Window::TIMERS, 8, COUNTER));
 }
 
+/// As a build does that reads and writes the timers four bytes at a time: 32-bit mode, and the low half first.
+fn in_halves(board: &mut Board) {
+    let comparator = TIMER + COMPARATOR;
+    let configuration = 20 << ROUTE_AT | NARROW | SET_COMPARATOR | PERIODIC | INTERRUPT;
+    println!("-- timer 0 in halves: 32-bit mode, period 2, on pin 20");
+    done("configuration, low half", board.write(Window::TIMERS, 4, TIMER, configuration));
+    done("comparator, low half", board.write(Window::TIMERS, 4, comparator, 2));
+    done("comparator, high half", board.write(Window::TIMERS, 4, comparator + HIGH_HALF, 0));
+    fired("advance by 8", board.advance(8));
+    value("comparator, low half", board.read(Window::TIMERS, 4, comparator));
+    value("counter, low half", board.read(Window::TIMERS, 4, COUNTER));
+    value("counter, high half", board.read(Window::TIMERS, 4, COUNTER + HIGH_HALF));
+    delivery(board.deliver());
+}
+
 fn main() {
     let mut board = Board::new();
     pause_key(&mut board);
@@ -184,4 +203,5 @@ fn main() {
     not_a_board();
     damaged(&board);
     full_advance(&mut board);
+    in_halves(&mut board);
 }

@@ -122,9 +122,9 @@ struct Numbers {
 pub struct Window(pub u64);
 
 impl Window {
-    /// The interrupt controller's: width 4 only.
+    /// The interrupt controller's: width 4.
     pub const CONTROLLER: Window = Window(0);
-    /// The timer block's: width 8 only, offset a multiple of 8, below 0x400.
+    /// The timer block's: width 8, or 4 for one half of a register; the offset is a multiple of the width, below 0x400.
     pub const TIMERS: Window = Window(1);
 }
 
@@ -134,6 +134,8 @@ pub const INDEX: u64 = 0x00;
 pub const DATA: u64 = 0x10;
 /// Index of entry 0's low word; entry n's is 2n above it, and its high word one above that.
 pub const ENTRY: u64 = 0x10;
+/// Offset in the timers' window: the capabilities, read only. Bits 63:32 are a tick's length in femtoseconds.
+pub const CAPABILITIES: u64 = 0x000;
 /// Offset in the timers' window: bit 0 enables the block.
 pub const CONFIGURATION: u64 = 0x010;
 /// Offset in the timers' window: bit n is timer n's status; writing 1 clears it.
@@ -146,6 +148,8 @@ pub const TIMER: u64 = 0x100;
 pub const TIMER_STEP: u64 = 0x020;
 /// From a timer's configuration to its comparator.
 pub const COMPARATOR: u64 = 0x008;
+/// From a register of the timers' window to its high half, of width 4. The low half is at the register's own offset.
+pub const HIGH_HALF: u64 = 0x004;
 
 /// Why a call was refused. The board is as it was.
 #[derive(Clone, Copy, Debug, PartialEq, Eq, Hash)]
@@ -241,13 +245,63 @@ impl Board {
         unsafe { nataqvoju_reset(self) };
     }
 
-    /// A register read.
+    /// A register read. Width 4 gives one half of a timer register.
+    ///
+    /// ```
+    /// use nataqvoju::{Board, Refusal, Window, CAPABILITIES, HIGH_HALF, TIMER};
+    ///
+    /// let board = Board::new();
+    /// // a tick is 100,000,000 femtoseconds
+    /// assert_eq!(board.read(Window::TIMERS, 4, CAPABILITIES + HIGH_HALF)?, 100_000_000);
+    /// // bits 63:32 of a configuration name the pins that it can be routed to; bits 5 and 4 are 1
+    /// assert_eq!(board.read(Window::TIMERS, 8, TIMER)?, 0x00FF_FFFF_0000_0030);
+    /// assert_eq!(board.read(Window::TIMERS, 4, TIMER)?, 0x30);
+    /// assert_eq!(board.read(Window::TIMERS, 4, TIMER + HIGH_HALF)?, 0x00FF_FFFF);
+    /// assert_eq!(board.read(Window::TIMERS, 8, TIMER + HIGH_HALF), Err(Refusal::Width));
+    /// # Ok::<(), Refusal>(())
+    /// ```
     pub fn read(&self, window: Window, width: u64, offset: u64) -> Result<u64, Refusal> {
         let numbers = unsafe { nataqvoju_read(self, window.0, width, offset) };
         Ok(numbers.done()?.value)
     }
 
     /// A register write.
+    ///
+    /// Width 4 replaces one half of a timer register and then does what a write of the whole does; for the status the
+    /// other half counts as zeros. For a comparator, the half is replaced in whatever the whole write would set: the
+    /// comparator, the period, or (periodic, with bit 6) both, each of which keeps its own other half. Bit 6 is then 0,
+    /// so the second half goes into the period alone. In 32-bit mode a high half stores 0.
+    ///
+    /// Two ways that work for a periodic timer in halves: 32-bit mode with the low half first, or the comparator as
+    /// one-shot first, then bit 3 without bit 6, then the period (docs/MONITOR.md has a third). Bit 6 in 64-bit mode is
+    /// a trap: only the first half reaches the comparator.
+    ///
+    /// ```
+    /// use nataqvoju::{Board, Window, COMPARATOR, HIGH_HALF, TIMER, TIMER_STEP};
+    ///
+    /// const PERIODIC: u64 = 0x08;
+    /// const SET_COMPARATOR: u64 = 0x40;
+    /// const NARROW: u64 = 0x100;
+    /// let mut board = Board::new();
+    /// // the trap, low half first: the comparator's high half is left as it was, all ones from reset
+    /// board.write(Window::TIMERS, 4, TIMER, SET_COMPARATOR | PERIODIC)?;
+    /// board.write(Window::TIMERS, 4, TIMER + COMPARATOR, 10)?;
+    /// board.write(Window::TIMERS, 4, TIMER + COMPARATOR + HIGH_HALF, 0)?;
+    /// assert_eq!(board.read(Window::TIMERS, 8, TIMER + COMPARATOR)?, 0xFFFF_FFFF_0000_000A);
+    /// // high half first: its low half is left, so the first firing comes after 2^32 - 1 ticks, seven minutes
+    /// let last = TIMER + 2 * TIMER_STEP;
+    /// board.write(Window::TIMERS, 4, last, SET_COMPARATOR | PERIODIC)?;
+    /// board.write(Window::TIMERS, 4, last + COMPARATOR + HIGH_HALF, 0)?;
+    /// board.write(Window::TIMERS, 4, last + COMPARATOR, 10)?;
+    /// assert_eq!(board.read(Window::TIMERS, 8, last + COMPARATOR)?, 0x0000_0000_FFFF_FFFF);
+    /// // 32-bit mode, low half first
+    /// let next = TIMER + TIMER_STEP;
+    /// board.write(Window::TIMERS, 4, next, NARROW | SET_COMPARATOR | PERIODIC)?;
+    /// board.write(Window::TIMERS, 4, next + COMPARATOR, 10)?;
+    /// board.write(Window::TIMERS, 4, next + COMPARATOR + HIGH_HALF, 0)?;
+    /// assert_eq!((board.timers.timer[1].comparator, board.timers.timer[1].period), (10, 10));
+    /// # Ok::<(), nataqvoju::Refusal>(())
+    /// ```
     pub fn write(&mut self, window: Window, width: u64, offset: u64, value: u64) -> Result<(), Refusal> {
         let numbers = unsafe { nataqvoju_write(self, window.0, width, offset, value) };
         numbers.done().map(drop)

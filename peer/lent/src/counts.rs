@@ -1,6 +1,7 @@
 //! What the calls were, and what they answered.
 
 use peer::abi::Call;
+use peer::board::TIMER_BLOCK;
 use peer::sequence::{Kind, Step};
 
 /// The paper's numbers that a call can answer: 0 to 5.
@@ -16,6 +17,30 @@ pub struct Counts {
     mending: u64,
     /// Calls behind such a reset in the same sequence.
     mended: u64,
+    halves: Halves,
+}
+
+/// Counts of 4-byte accesses to the timers.
+#[derive(Default)]
+struct Halves {
+    read: u64,
+    written: u64,
+    /// Refused for an offset that isn't a multiple of 4.
+    unaligned: u64,
+    /// Refused for a value of more than 32 bits.
+    big: u64,
+}
+
+impl Halves {
+    fn note(&mut self, step: &Step) {
+        match (step.call, step.reply.number) {
+            (Call::Read { window: TIMER_BLOCK, width: 4, .. }, 0) => self.read += 1,
+            (Call::Write { window: TIMER_BLOCK, width: 4, .. }, 0) => self.written += 1,
+            (Call::Write { window: TIMER_BLOCK, width: 4, .. }, 2) => self.unaligned += 1,
+            (Call::Write { window: TIMER_BLOCK, width: 4, .. }, 4) => self.big += 1,
+            _ => {}
+        }
+    }
 }
 
 impl Counts {
@@ -24,6 +49,7 @@ impl Counts {
         self.kinds[kind as usize] += 1;
         self.numbers[step.reply.number as usize] += 1;
         self.mended += u64::from(mended);
+        self.halves.note(step);
         if step.call == Call::Reset {
             self.resets += 1;
             self.mending += u64::from(!step.before.is_well_formed());
@@ -37,9 +63,16 @@ impl Counts {
         let numbers = self.numbers.iter().enumerate();
         let mut rows: Vec<(String, u64)> = kinds.collect();
         rows.extend(numbers.map(|(number, &count)| (format!("answered {number}"), count)));
-        rows.push(("resets".to_string(), self.resets));
-        rows.push(("resets of an ill-formed board".to_string(), self.mending));
-        rows.push(("calls that go on behind such a reset".to_string(), self.mended));
+        let others = [
+            ("resets", self.resets),
+            ("resets of an ill-formed board", self.mending),
+            ("calls that go on behind such a reset", self.mended),
+            ("half reads of the timers", self.halves.read),
+            ("half writes of the timers", self.halves.written),
+            ("half writes refused for their alignment", self.halves.unaligned),
+            ("half writes refused for their value", self.halves.big),
+        ];
+        rows.extend(others.map(|(text, count)| (text.to_string(), count)));
         rows
     }
 }

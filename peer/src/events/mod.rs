@@ -1,6 +1,7 @@
 //! What happens in a log: interesting events, counted, so that a profile that never reaches one
 //! it is meant to reach shows up.
 
+mod halves;
 mod registers;
 mod ticks;
 mod watch;
@@ -110,6 +111,41 @@ events! {
     CounterIgnored: "counter write ignored while enabled", "vat";
     CounterTaken: "counter write taken", "vat";
     MadeEqual: "write that makes counter and comparator equal", "vat";
+    HalfReadLow: "half read: low half, unlike the high one", "vat";
+    HalfReadHigh: "half read: high half, unlike the low one", "vat";
+    HalfEnable: "half write: low half turns the block on or off", "vat";
+    HalfEnableHigh: "half write: 0x014 while the block is enabled", "vat";
+    HalfConfiguration: "half write: low half changes a configuration", "vat";
+    HalfConfigurationBitSix: "half write: high half of a configuration, bit 6 set", "vat";
+    HalfConfigurationStatus: "half write: high half of a configuration, status set", "vat";
+    HalfStatus: "half write: low half clears a status", "vat";
+    HalfStatusHigh: "half write: 0x024 with the bit of a set status", "vat";
+    HalfCounterLow: "half write: low half of the counter taken", "vat";
+    HalfCounterHigh: "half write: high half of the counter taken", "vat";
+    HalfCounterLowIgnored: "half write: low half of the counter while enabled", "vat";
+    HalfCounterHighIgnored: "half write: high half of the counter while enabled", "vat";
+    HalfOneShotLow: "half write: low half, one-shot comparator", "vat";
+    HalfOneShotHigh: "half write: high half, one-shot comparator", "vat";
+    HalfPeriodLow: "half write: low half, period alone", "vat";
+    HalfPeriodHigh: "half write: high half, period alone", "vat";
+    HalfBothLow: "half write: low half, bit 6, other halves differ", "vat";
+    HalfBothHigh: "half write: high half, bit 6, other halves differ", "vat";
+    HalfNarrowOneShot: "half write: high half, 32-bit one-shot comparator", "vat";
+    HalfNarrowPeriod: "half write: high half, 32-bit period", "vat";
+    HalfNarrowBothLow: "half write: low half, 32-bit, bit 6", "vat";
+    HalfNarrowBothHigh: "half write: high half, 32-bit, bit 6", "vat";
+    HalfSecondLow: "half write: low half after a high half took bit 6", "vat";
+    HalfSecondHigh: "half write: high half after a low half took bit 6", "vat";
+    HalfPeriodShows: "periodic timer fires with a period written in halves", "vat";
+    HalfMakesEqual: "half write makes counter and comparator equal", "vat";
+    EdgeByHalfEnable: "half write: edge by turning the block on or off", "vt";
+    EdgeByHalfConfiguration: "half write: edge by a configuration", "vt";
+    EdgeByHalfStatus: "half write: edge by clearing a status, active low", "vt";
+    HalfRewrittenHigh: "half write: rewritten while the wire stays high", "vt";
+    HalfMovedWire: "half write: one wire falls and another rises", "vt";
+    HalfReadOnly: "half write: read-only register", "va";
+    HalfUnlisted: "half access to an unlisted offset", "va";
+    LastHalf: "half access at 0x3FC", "a";
     HeldDropped: "held edge dropped by a level write", "vac";
     HeldMasked: "held edge survives masking", "vac";
     HeldUnmasked: "held edge unmasked again", "vc";
@@ -138,6 +174,17 @@ events! {
     WidthBeforeOffset: "bad width and bad offset", "a";
     OffsetBeforeValue: "bad offset and value above 32 bits", "a";
     PinBeforeLevel: "bad pin and bad level", "a";
+    WholeAtFour: "timers: 8-byte access at a multiple of 4", "a";
+    HalfUnaligned: "timers: 4-byte access at no multiple of 4", "a";
+    WidthZero: "timers: width 0", "a";
+    OtherWidth: "timers: another width, at a multiple of it", "a";
+    HalfAtEnd: "timers: 4-byte access at 0x400", "a";
+    TimerWidthBeforeOffset: "timers: bad width or alignment, and bad offset", "a";
+    TimerWidthBeforeValue: "timers: unaligned half and value above 32 bits", "a";
+    TimerOffsetBeforeValue: "timers: half at a bad offset, value above 32 bits", "a";
+    BigHalf: "timers: half above 32 bits, writable register", "a";
+    BigHalfReadOnly: "timers: half above 32 bits, read-only register", "a";
+    BigHalfUnlisted: "timers: half above 32 bits, unlisted offset", "a";
     Unlisted: "access to an unlisted timer offset or index", "va";
     Stopped6: "stopped 6", "x";
     Stopped7: "stopped 7", "x";

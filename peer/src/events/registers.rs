@@ -3,30 +3,35 @@
 use super::watch::Watcher;
 use super::Event;
 use crate::board::Board;
+use crate::part::PartWrite;
 use crate::pin::PINS;
 use crate::timer::{bits, Timer};
 use crate::timers::{comparator_of, configuration_of, COUNTER, ENABLE, STATUS, TIMERS};
 
 impl Watcher<'_> {
-    pub(super) fn watch_timer_write(&mut self, before: &Board, offset: u64, value: u64) {
-        match offset {
+    pub(super) fn watch_timer_write(&mut self, before: &Board, write: &PartWrite) {
+        if write.part.is_half() {
+            self.watch_half_write(before, write);
+        }
+        match write.register {
             ENABLE => self.watch_enable(before),
             STATUS => self.watch_status(before),
             COUNTER => {
                 let enabled = before.timers.enabled;
                 let event = if enabled { Event::CounterIgnored } else { Event::CounterTaken };
                 self.counts.note(event);
-                let equal = self.board.timers.timer.iter().any(|timer| timer.matches(value));
+                let meets = |timer: &Timer| timer.matches(write.replaced);
+                let equal = self.board.timers.timer.iter().any(meets);
                 self.counts.note_if(!enabled && equal, Event::MadeEqual);
             }
             _ => {}
         }
         for n in 0..TIMERS {
-            if offset == configuration_of(n) {
-                self.watch_configuration(before, n, value);
+            if write.register == configuration_of(n) {
+                self.watch_configuration(before, n, write.replaced);
                 self.watch_configured_wires(before, n);
-            } else if offset == comparator_of(n) {
-                self.watch_comparator(before, n, value);
+            } else if write.register == comparator_of(n) {
+                self.watch_comparator(before, n, write);
             }
         }
     }
@@ -90,16 +95,19 @@ impl Watcher<'_> {
         self.fired[n] = false;
     }
 
-    fn watch_comparator(&mut self, before: &Board, n: usize, value: u64) {
+    fn watch_comparator(&mut self, before: &Board, n: usize, write: &PartWrite) {
         let (old, new) = (before.timers.timer[n], self.board.timers.timer[n]);
         let counts = &mut *self.counts;
         counts.note_if(old.set_comparator, Event::BitSix);
         counts.note_if(old.periodic && !old.set_comparator, Event::PeriodOnly);
         counts.note_if(!old.periodic && old.period != 0, Event::OneShotKeepsPeriod);
-        counts.note_if(old.narrow && value >> 32 != 0, Event::NarrowWriteReduces);
+        let reduced = old.narrow && !write.part.is_half() && write.value >> 32 != 0;
+        counts.note_if(reduced, Event::NarrowWriteReduces);
         let equal = new.comparator != old.comparator && new.matches(before.timers.counter);
         counts.note_if(equal, Event::MadeEqual);
         self.fired[n] = false;
+        self.halved[n] = write.part.is_half() && old.periodic;
+        self.first_half[n] = Some(write.part).filter(|part| part.is_half() && old.set_comparator);
     }
 }
 
@@ -122,13 +130,13 @@ fn rise(old: Timer, new: Timer) -> Event {
 }
 
 /// The pins that hold an edge since the write.
-fn new_edges(before: &Board, after: &Board) -> Vec<usize> {
+pub(super) fn new_edges(before: &Board, after: &Board) -> Vec<usize> {
     let (old, new) = (&before.controller.pins, &after.controller.pins);
     (0..PINS).filter(|&pin| !old[pin].held && new[pin].held).collect()
 }
 
 /// How many wires changed.
-fn moved_wires(before: &Board, after: &Board) -> usize {
+pub(super) fn moved_wires(before: &Board, after: &Board) -> usize {
     let pins = before.controller.pins.iter().zip(&after.controller.pins);
     pins.filter(|(old, new)| old.wire != new.wire).count()
 }

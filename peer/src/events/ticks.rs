@@ -169,6 +169,7 @@ impl Watcher<'_> {
             counts.note_if(timer.period == 0, Event::PeriodZero);
             counts.note_if(timer.period == 1, Event::PeriodOne);
             counts.note_if(timer.period >= 1 << 31, Event::PeriodHuge);
+            counts.note_if(self.halved[n], Event::HalfPeriodShows);
             let next = u128::from(timer.comparator) + u128::from(timer.period);
             counts.note_if(timer.narrow && next >= 1 << 32, Event::ComparatorWrapNarrow);
             counts.note_if(!timer.narrow && next >= 1 << 64, Event::ComparatorWrapWide);

@@ -1,10 +1,11 @@
 //! Follows a log record by record; advances are in [`super::ticks`], timer register writes in
-//! [`super::registers`].
+//! [`super::registers`] and [`super::halves`].
 
 use super::{Counts, Event};
 use crate::board::{Board, CONTROLLER, TIMER_BLOCK};
 use crate::controller::{Controller, DATA};
 use crate::log::Record;
+use crate::part::Part;
 use crate::pin::{Pin, PINS};
 use crate::timers::{configuration_of, TIMERS};
 
@@ -14,11 +15,21 @@ pub(super) struct Watcher<'counts> {
     pub(super) board: Board,
     /// The timer fired, and its comparator wasn't written since.
     pub(super) fired: [bool; TIMERS],
+    /// The last write to the timer's period was one of a half.
+    pub(super) halved: [bool; TIMERS],
+    /// The half that took bit 6, if its comparator wasn't written since.
+    pub(super) first_half: [Option<Part>; TIMERS],
 }
 
 impl<'counts> Watcher<'counts> {
     pub(super) fn new(counts: &'counts mut Counts) -> Self {
-        Watcher { counts, board: Board::RESET, fired: [false; TIMERS] }
+        Watcher {
+            counts,
+            board: Board::RESET,
+            fired: [false; TIMERS],
+            halved: [false; TIMERS],
+            first_half: [None; TIMERS],
+        }
     }
 }
 
@@ -30,14 +41,15 @@ impl Watcher<'_> {
             return self.watch_refusal(record, number);
         }
         match *record {
-            Record::Read { window, offset, .. } => {
-                self.watch_read(u64::from(window), u64::from(offset));
+            Record::Read { window, width, offset } => {
+                self.watch_read(u64::from(window), width, u64::from(offset));
             }
-            Record::Write { window, offset, value, .. } => {
+            Record::Write { window, width, offset, value } => {
                 if u64::from(window) == CONTROLLER {
                     self.watch_controller_write(&before, u64::from(offset));
                 } else {
-                    self.watch_timer_write(&before, u64::from(offset), value);
+                    let write = before.timers.part_write(width.into(), offset.into(), value);
+                    self.watch_timer_write(&before, &write);
                 }
             }
             Record::Wire { pin, level } => self.watch_wire(&before, usize::from(pin), level == 1),
@@ -79,9 +91,12 @@ impl Watcher<'_> {
             let big = width == 4 && value > u64::from(u32::MAX);
             self.counts.note_if(big, Event::OffsetBeforeValue);
         }
+        if window == TIMER_BLOCK {
+            self.watch_bad_timer_access(u64::from(width), offset, value);
+        }
     }
 
-    fn watch_read(&mut self, window: u64, offset: u64) {
+    fn watch_read(&mut self, window: u64, width: u8, offset: u64) {
         if window == CONTROLLER && offset == DATA {
             let index = self.board.controller.index as usize;
             self.counts.note_if(matches!(index, 3..0x10 | 0x40..), Event::Unlisted);
@@ -97,6 +112,9 @@ impl Watcher<'_> {
                 self.counts.note_if(read, Event::BitSixRead);
             }
             self.counts.note_if(offset >= 0x160, Event::Unlisted);
+            if width == 4 {
+                self.watch_half_read(offset);
+            }
         }
     }
 

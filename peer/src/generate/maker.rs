@@ -1,10 +1,11 @@
 //! A log in the making: its records so far, the board that plays them, and the choices that
 //! depend on both.
 
-use super::choices::{self, any_pin};
+use super::choices::{self, any_pin, landmark, near, period};
 use crate::board::Board;
 use crate::controller::{DATA, INDEX};
 use crate::log::Record;
+use crate::part::Part;
 use crate::random::Random;
 use crate::timer::bits;
 use crate::timers::TIMERS;
@@ -47,12 +48,42 @@ impl Maker {
         self.push(Record::Write { window: 0, width: 4, offset: offset as u16, value });
     }
 
-    pub(super) fn read_timers(&mut self, offset: u64) {
-        self.push(Record::Read { window: 1, width: 8, offset: offset as u16 });
+    pub(super) fn read_part(&mut self, register: u64, part: Part) {
+        let (width, offset) = (part.width() as u8, part.offset_in(register) as u16);
+        self.push(Record::Read { window: 1, width, offset });
     }
 
-    pub(super) fn write_timers(&mut self, offset: u64, value: u64) {
-        self.push(Record::Write { window: 1, width: 8, offset: offset as u16, value });
+    /// Writes that part of the number.
+    pub(super) fn write_part(&mut self, register: u64, part: Part, number: u64) {
+        let (width, offset) = (part.width() as u8, part.offset_in(register) as u16);
+        self.push(Record::Write { window: 1, width, offset, value: part.of(number) });
+    }
+
+    /// Reads a timer register, mostly whole, sometimes in halves.
+    pub(super) fn read_timers(&mut self, register: u64) {
+        let first = self.half();
+        match self.random.below(100) {
+            0..86 => self.read_part(register, Part::Whole),
+            86..97 => {
+                self.read_part(register, first);
+                self.read_part(register, first.other());
+            }
+            _ => self.read_part(register, first),
+        }
+    }
+
+    /// Writes a timer register, mostly whole, sometimes in halves. The low half alone is enough for
+    /// all but the counter and the comparators.
+    pub(super) fn write_timers(&mut self, register: u64, number: u64) {
+        let first = self.half();
+        match self.random.below(100) {
+            0..85 => self.write_part(register, Part::Whole, number),
+            85..95 => {
+                self.write_part(register, first, number);
+                self.write_part(register, first.other(), number);
+            }
+            _ => self.write_part(register, Part::Low, number),
+        }
     }
 
     pub(super) fn read_index(&mut self, index: u64) {
@@ -102,6 +133,51 @@ impl Maker {
 
     pub(super) fn timer(&mut self) -> usize {
         self.random.below(TIMERS as u64) as usize
+    }
+
+    /// One of the halves.
+    pub(super) fn half(&mut self) -> Part {
+        self.random.choose(&Part::HALVES)
+    }
+
+    /// A new configuration for timer n, or the present one with a single thing changed.
+    pub(super) fn reconfiguration(&mut self, n: usize) -> u64 {
+        let present = self.board.timers.timer[n].read_configuration();
+        match self.random.below(100) {
+            0..45 => self.configuration(),
+            45..53 => present ^ bits::INTERRUPT,
+            53..61 => present ^ bits::LEVEL_TYPE,
+            61..67 => present ^ bits::PERIODIC,
+            67..74 => present ^ bits::NARROW,
+            74..80 => present ^ bits::SET_COMPARATOR,
+            80..90 => {
+                let route = u64::from(self.pin());
+                present & !(bits::ROUTE_MASK << bits::ROUTE_SHIFT) | route << bits::ROUTE_SHIFT
+            }
+            90..96 => present,
+            _ => present | 0x18 << bits::ROUTE_SHIFT,
+        }
+    }
+
+    /// A number for the comparator register of timer n: the period, if that is what it sets.
+    pub(super) fn due_or_period(&mut self, n: usize) -> u64 {
+        let timer = self.board.timers.timer[n];
+        if timer.periodic && !timer.set_comparator {
+            period(&mut self.random)
+        } else {
+            near(&mut self.random, self.board.timers.counter)
+        }
+    }
+
+    /// A number for the counter, from which some timer is due soon.
+    pub(super) fn count(&mut self) -> u64 {
+        let n = self.timer();
+        let comparator = self.board.timers.timer[n].comparator;
+        match self.random.below(100) {
+            0..60 => comparator.wrapping_sub(self.random.below(4)),
+            60..70 => comparator.wrapping_add(self.random.below(3)),
+            _ => landmark(&mut self.random),
+        }
     }
 
     pub(super) fn due_in(&mut self) -> u64 {

@@ -5,6 +5,7 @@
 //! keeps to a few pins and vectors, and reads the registers back often.
 
 mod choices;
+mod halves;
 mod maker;
 mod moves;
 mod scenes;

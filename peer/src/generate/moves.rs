@@ -1,12 +1,11 @@
 //! Moves: a few records that belong together.
 
-use super::choices::{landmark, near, period};
+use super::choices::period;
 use super::maker::Maker;
 use super::Profile;
 use crate::controller::DATA;
 use crate::log::Record;
 use crate::pin::{Pin, ACTIVE_LOW, LEVEL, MASK};
-use crate::timer::bits;
 use crate::timers::{comparator_of, configuration_of, COUNTER, ENABLE, STATUS};
 
 impl Maker {
@@ -19,7 +18,8 @@ impl Maker {
                 80..83 => self.set_scene(Profile::Timers),
                 83..86 => self.set_level_scene(),
                 86..87 => self.set_width_scene(),
-                87..94 => self.look(),
+                87..88 => self.set_half_scene(),
+                88..94 => self.look(),
                 _ => self.sweep_some(),
             },
             Profile::Controller => match roll {
@@ -35,7 +35,8 @@ impl Maker {
                 75..80 => self.set_scene(Profile::Timers),
                 80..84 => self.set_level_scene(),
                 84..86 => self.set_width_scene(),
-                86..97 => self.look(),
+                86..88 => self.set_half_scene(),
+                88..97 => self.look(),
                 _ => self.sweep_some(),
             },
             Profile::Adversarial | Profile::Torn => match roll {
@@ -45,6 +46,7 @@ impl Maker {
                 90..92 => self.set_scene(Profile::Timers),
                 92..94 => self.set_level_scene(),
                 94..95 => self.set_width_scene(),
+                95..96 => self.set_half_scene(),
                 _ => self.look(),
             },
         }
@@ -147,7 +149,7 @@ impl Maker {
 
     pub(super) fn timer_move(&mut self) {
         let n = self.timer();
-        match self.random.below(100) {
+        match self.random.below(106) {
             0..34 => self.pass_time(),
             34..48 => self.reconfigure(n),
             48..58 => self.rewrite_comparator(n),
@@ -173,6 +175,7 @@ impl Maker {
                 self.read_timers(offset);
             }
             87..93 => self.look_at_timers(),
+            93..99 => self.half_move(n),
             _ => {
                 let pin = u64::from(self.board.timers.timer[n].route);
                 self.rewrite_low(pin);
@@ -190,23 +193,8 @@ impl Maker {
         }
     }
 
-    /// A new configuration, or the present one with a single thing changed.
     pub(super) fn reconfigure(&mut self, n: usize) {
-        let present = self.board.timers.timer[n].read_configuration();
-        let value = match self.random.below(100) {
-            0..45 => self.configuration(),
-            45..53 => present ^ bits::INTERRUPT,
-            53..61 => present ^ bits::LEVEL_TYPE,
-            61..67 => present ^ bits::PERIODIC,
-            67..74 => present ^ bits::NARROW,
-            74..80 => present ^ bits::SET_COMPARATOR,
-            80..90 => {
-                let route = u64::from(self.pin());
-                present & !(bits::ROUTE_MASK << bits::ROUTE_SHIFT) | route << bits::ROUTE_SHIFT
-            }
-            90..96 => present,
-            _ => present | 0x18 << bits::ROUTE_SHIFT,
-        };
+        let value = self.reconfiguration(n);
         self.write_timers(configuration_of(n), value);
         if self.random.percent(30) {
             self.read_timers(configuration_of(n));
@@ -217,14 +205,10 @@ impl Maker {
     }
 
     pub(super) fn rewrite_comparator(&mut self, n: usize) {
-        let timer = self.board.timers.timer[n];
-        let value = if timer.periodic && !timer.set_comparator {
-            period(&mut self.random)
-        } else {
-            near(&mut self.random, self.board.timers.counter)
-        };
+        let set = self.board.timers.timer[n].set_comparator;
+        let value = self.due_or_period(n);
         self.write_timers(comparator_of(n), value);
-        if timer.set_comparator && self.random.percent(60) {
+        if set && self.random.percent(60) {
             let value = period(&mut self.random);
             self.write_timers(comparator_of(n), value);
         }
@@ -235,13 +219,7 @@ impl Maker {
 
     /// A new counter value. It is mostly taken, since the block is switched off first.
     pub(super) fn rewrite_counter(&mut self) {
-        let n = self.timer();
-        let comparator = self.board.timers.timer[n].comparator;
-        let value = match self.random.below(100) {
-            0..60 => comparator.wrapping_sub(self.random.below(4)),
-            60..70 => comparator.wrapping_add(self.random.below(3)),
-            _ => landmark(&mut self.random),
-        };
+        let value = self.count();
         if self.random.percent(70) {
             self.write_timers(ENABLE, 0);
         }

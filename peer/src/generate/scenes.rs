@@ -1,10 +1,11 @@
 //! Set-ups from which something is bound to happen, looks at everything in which a difference
 //! would show, and records that are refused.
 
-use super::choices::{configuration, landmark, low_word, near, period};
+use super::choices::{configuration, landmark, low_word, near, period, sometimes};
 use super::maker::Maker;
 use super::Profile;
 use crate::log::Record;
+use crate::part::Part;
 use crate::pin::{LEVEL, MASK};
 use crate::timer::bits;
 use crate::timers::{comparator_of, configuration_of, COUNTER, ENABLE, STATUS, TIMERS};
@@ -79,9 +80,13 @@ impl Maker {
     fn move_wire(&mut self, n: usize) {
         let present = self.board.timers.timer[n].read_configuration();
         let route = bits::ROUTE_MASK << bits::ROUTE_SHIFT;
-        match self.random.below(8) {
+        match self.random.below(9) {
             0..3 => self.write_timers(configuration_of(n), present ^ bits::INTERRUPT),
-            3 => self.write_timers(configuration_of(n), present),
+            3 => {
+                let other = sometimes(&mut self.random, 70, bits::PERIODIC);
+                let part = self.random.choose(&[Part::Whole, Part::Low]);
+                self.write_part(configuration_of(n), part, present ^ other);
+            }
             4 => {
                 let pin = u64::from(self.pin());
                 let moved = present & !route | pin << bits::ROUTE_SHIFT;
@@ -92,6 +97,7 @@ impl Maker {
                 let value = present & !(bits::LEVEL_TYPE & self.random.any()) | route;
                 self.write_timers(configuration_of(n), value);
             }
+            7 => self.write_idle_half(n),
             _ => {
                 let on = u64::from(!self.board.timers.enabled);
                 self.write_timers(ENABLE, on);
@@ -180,6 +186,9 @@ impl Maker {
             let pin = self.random.choose(&[23, 24, 25, 31, 32, 128, 255, self.pins[0]]);
             let level = self.random.choose(&[0, 1, 2, 3, 128, 255]);
             return self.push(Record::Wire { pin, level });
+        }
+        if self.random.percent(15) {
+            return self.bad_half();
         }
         let window = self.random.choose(&[0, 0, 0, 1, 1, 1, 2, 3, 128, 255]);
         let width = self.random.choose(&[4, 4, 4, 8, 8, 8, 0, 1, 2, 3, 5, 16, 132, 255]);

@@ -1,13 +1,22 @@
 //! Random calls.
 
 use crate::abi::Call;
+use crate::part::Part;
 use crate::random::Random;
+
+/// Some register of the timers, whole or a half: width and offset.
+fn timer_place(random: &mut Random) -> (u64, u64) {
+    let register =
+        random.choose(&[0x10, 0x20, 0xF0, 0x100, 0x108, 0x120, 0x128, 0x140, 0x148, 0x000, 0x3F8]);
+    let part = random.choose(&[Part::Whole, Part::Whole, Part::Low, Part::High]);
+    (part.width(), part.offset_in(register))
+}
 
 /// One of each call but a reset, with arguments that are not refused.
 pub fn each(random: &mut Random) -> [Call; 8] {
-    let offset =
-        random.choose(&[0x10, 0x20, 0xF0, 0x100, 0x108, 0x120, 0x128, 0x140, 0x148, 0x000, 0x3F8]);
-    let value = random.any() >> random.below(64);
+    let (width, offset) = timer_place(random);
+    let bits = 8 * width;
+    let value = random.any() >> (64 - bits) >> random.below(bits);
     let data = random.choose(&[0x00, 0x10]);
     let word = u64::from(random.any() as u32 & 0x0001_FFFF);
     let ticks = match random.below(3) {
@@ -16,9 +25,9 @@ pub fn each(random: &mut Random) -> [Call; 8] {
         _ => random.any() as u32 >> random.below(32),
     };
     [
-        Call::Read { window: 1, width: 8, offset },
+        Call::Read { window: 1, width, offset },
         Call::Read { window: 0, width: 4, offset: data },
-        Call::Write { window: 1, width: 8, offset, value },
+        Call::Write { window: 1, width, offset, value },
         Call::Write { window: 0, width: 4, offset: data, value: word },
         Call::Wire { pin: random.below(24), level: random.below(2) },
         Call::End { vector: 0x30 + random.below(4) as u8 },
@@ -27,11 +36,19 @@ pub fn each(random: &mut Random) -> [Call; 8] {
     ]
 }
 
-/// Any call, a reset among them.
+/// Any call, a reset and refused accesses to the timers among them.
 pub fn any(random: &mut Random) -> Call {
-    let calls = each(random);
-    let choice = random.below(calls.len() as u64 + 1) as usize;
-    calls.get(choice).copied().unwrap_or(Call::Reset)
+    let mut calls = each(random).to_vec();
+    calls.extend([Call::Reset, at_the_timers(random)]);
+    random.choose(&calls)
+}
+
+/// A write to the timers, which is refused if its width, alignment, offset or value is bad.
+fn at_the_timers(random: &mut Random) -> Call {
+    let (_, register) = timer_place(random);
+    let width = random.choose(&[4, 4, 4, 4, 8, 8, 0, 1, 2, 3, 5, 16]);
+    let offset = register + random.choose(&[0, 0, 0, 4, 4, 2, 0x400]);
+    Call::Write { window: 1, width, offset, value: random.any() >> random.below(64) }
 }
 
 /// Arguments that a log can't have: cut to fewer bits, they would be others.
@@ -39,10 +56,11 @@ pub fn wide(random: &mut Random) -> Call {
     let high = random.choose(&[1 << 8, 1 << 16, 1 << 32, 1 << 33, 1 << 63, 0xFFFF_FFFF << 32]);
     let low = random.choose(&[0, 1, 4, 8, 0x10, 0xF0, 0x100]);
     let bit = random.below(2);
+    let allowed = if bit == 0 { 4 } else { random.choose(&[4, 8]) };
     let (window, width, offset) = match random.below(3) {
-        0 => (high | bit, 4 + 4 * bit, low),
-        1 => (bit, high | (4 + 4 * bit), low),
-        _ => (bit, 4 + 4 * bit, high | low),
+        0 => (high | bit, allowed, low),
+        1 => (bit, high | allowed, low),
+        _ => (bit, allowed, high | low),
     };
     match random.below(4) {
         0 => Call::Read { window, width, offset },

@@ -1,4 +1,4 @@
-//! The mistakes that a model could make: those that document 01 names or shuts out, and the
+//! The mistakes that a model could make: those that documents 01 and 02 name or shut out, and the
 //! readings that were decided against.
 
 /// Declares the mistakes with their descriptions.
@@ -103,6 +103,56 @@ mistakes! {
     CounterNeverWritten: "a counter write is never taken";
     EnableResetsCounter: "enabling the block starts the counter at 0";
     EqualWriteFires: "a write that makes them equal fires";
+    // Timer registers in halves: refusals.
+    HalvesRefused: "a 4-byte access to the timers is refused";
+    HalfAnywhere: "a 4-byte access to the timers isn't tested for alignment";
+    WholeAtFour: "an 8-byte access to the timers is taken at a multiple of 4";
+    WidthZeroTaken: "width 0 is taken at the timers";
+    WidthOneTaken: "width 1 is taken at the timers";
+    WidthTwoTaken: "width 2 is taken at the timers";
+    WidthSixteenTaken: "width 16 is taken at the timers";
+    LastHalfRefused: "the half at 0x3FC is refused";
+    EndHalfTaken: "the half at 0x400 isn't refused";
+    TimerOffsetBeforeWidth: "at the timers a bad offset is tested before the width";
+    TimerValueBeforeOffset: "a big half is tested before the timer offset";
+    TimerValueBeforeWidth: "a big half is tested before its alignment";
+    BigHalfAtReadOnly: "a big half is taken at a read-only offset";
+    BigHalfAtUnlisted: "a big half is taken at an unlisted offset";
+    BigHalfTaken: "a half write takes the low half of a big value";
+    WholeValueRefused: "an 8-byte write of a big value is refused";
+    ControllerTakesEight: "an 8-byte access to the controller is taken";
+    ControllerAlignment: "alignment is tested at the controller";
+    // Timer registers in halves: reads.
+    HalfReadsSwapped: "a half read gives the other half";
+    HalfReadsWhole: "a half read gives the whole register";
+    HighReadsLow: "a high half reads the low half";
+    HighReadUnshifted: "a high half is read at its place in the register";
+    // Timer registers in halves: writes.
+    HalfWritesSwapped: "a half write goes into the other half";
+    SilentHalfWrite: "a half write makes no edge";
+    GlitchingHalf: "a half write of a configuration is several steps";
+    HalfConfigurationZeroes: "a half write of a configuration takes the rest as zeros";
+    HalfEnableZeroes: "a high half at 0x014 disables the block";
+    HighConfigurationDropsBitSix: "a high half of a configuration clears bit 6";
+    HighConfigurationClearsStatus: "a high half of a configuration clears the status";
+    StatusHalfFromRegister: "a half write at the status takes the rest from the register";
+    HighStatusClears: "a high half write at the status clears the bits that it has";
+    CounterHalfTaken: "a half of the counter is taken while enabled";
+    CounterHalfZeroes: "a half write of the counter takes the rest as zeros";
+    BitSixUntilBoth: "bit 6 stays until both halves came";
+    LowHalfClearsBitSix: "only a low half clears bit 6";
+    NarrowHighIgnored: "in 32-bit mode a high half is ignored and leaves bit 6";
+    BitSixHalfFromComparator: "with bit 6 both numbers take the comparator's other half";
+    BitSixHalfZeroes: "with bit 6 the other half of both numbers becomes 0";
+    BitSixHalfComparatorOnly: "with bit 6 a half goes into the comparator only";
+    BitSixHalfPeriodOnly: "with bit 6 a half goes into the period only";
+    HalfZeroesComparator: "a half of a one-shot comparator makes the rest 0";
+    HalfZeroesPeriod: "a half of a period makes the rest 0";
+    HalfPeriodSetsComparator: "a half of a period sets that half of the comparator too";
+    HalfPeriodInComparator: "a half of a period goes into the comparator instead";
+    NarrowHighClears: "a high half in 32-bit mode makes the whole comparator 0";
+    NarrowHighClearsPeriod: "a high half in 32-bit mode makes the whole period 0";
+    NarrowHighStored: "a high half in 32-bit mode is stored";
     // Time.
     RaiseEdgeOnly: "a pulse makes no edge at its drop";
     LevelRiseEdgeActiveLow: "a level timer's rise makes an edge on an active-low pin";

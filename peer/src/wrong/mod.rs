@@ -3,6 +3,7 @@
 //! The right model stays free of hooks. A wrong one lets it answer, and then damages the answer
 //! or the state; where that can't be done, it goes its own way for a while.
 
+mod halves;
 mod log;
 mod mistake;
 mod reads;
@@ -16,6 +17,7 @@ pub use reset::replies;
 
 use crate::board::{Board, Calls, Refusal};
 use crate::controller::Delivery;
+use crate::part::Part;
 use crate::pin::{Pin, DELIVERY_MODE, MASK, PINS, REMOTE_IRR};
 use crate::timers::TIMERS;
 
@@ -41,6 +43,8 @@ struct Memory {
     bits: [bool; TIMERS],
     /// The number before 32-bit mode reduced it.
     wide: [Option<u64>; TIMERS],
+    /// The half of a comparator that came since bit 6 was written.
+    first_half: [Option<Part>; TIMERS],
 }
 
 impl Wrong {
@@ -129,19 +133,20 @@ impl Calls for Wrong {
     fn read(&mut self, window: u64, width: u64, offset: u64) -> Result<u64, Refusal> {
         let offset = self.wrong_offset(window, width, offset);
         self.wrong_refusal(window, width, offset, 0)?;
-        if self.ignores(window, width, offset) {
+        if self.ignores(window, width, offset, 0) {
             return Ok(0);
         }
         let value = self.board.read(window, width, offset)?;
-        Ok(self.wrong_read(window, offset, value))
+        Ok(self.wrong_read(window, width, offset, value))
     }
 
     fn write(&mut self, window: u64, width: u64, offset: u64, value: u64) -> Result<(), Refusal> {
         let offset = self.wrong_offset(window, width, offset);
         self.wrong_refusal(window, width, offset, value)?;
-        if self.ignores(window, width, offset) {
+        if self.ignores(window, width, offset, value) {
             return Ok(());
         }
+        let offset = self.wrong_half(window, width, offset);
         self.wrong_write(window, width, offset, value)
     }
 

@@ -3,18 +3,19 @@
 use super::{Mistake, Wrong};
 use crate::board::{Refusal, CONTROLLER, TIMER_BLOCK};
 use crate::controller::{Controller, DATA};
+use crate::part::{register_at, Part};
 use crate::pin::{DELIVERY_STATUS, MASK};
 use crate::timer::bits;
 use crate::timers::{comparator_of, configuration_of, STATUS, TIMERS, WINDOW_END};
 
 impl Wrong {
+    /// Where an access goes: somewhere else, or to where it would be aligned.
     pub(super) fn wrong_offset(&self, window: u64, width: u64, offset: u64) -> u64 {
-        let moved =
-            self.has(Mistake::DataWindowAtFour) && (window, width, offset) == (CONTROLLER, 4, 0x04);
-        if moved {
-            DATA
-        } else {
-            offset
+        match (self.mistake, window, width) {
+            (Mistake::DataWindowAtFour, CONTROLLER, 4) if offset == 0x04 => DATA,
+            (Mistake::WholeAtFour, TIMER_BLOCK, 8) => offset & !4,
+            (Mistake::HalfAnywhere, TIMER_BLOCK, 4) => offset & !3,
+            _ => offset,
         }
     }
 
@@ -37,23 +38,28 @@ impl Wrong {
             Mistake::WidthBeforeWindow if width != 4 && width != 8 => Err(Refusal::Width),
             Mistake::OffsetBeforeWidth if bad_offset => Err(Refusal::Place),
             Mistake::ValueBeforeOffset if big => Err(Refusal::Value),
+            Mistake::ControllerAlignment if window == CONTROLLER && !offset.is_multiple_of(4) => {
+                Err(Refusal::Width)
+            }
+            _ if window == TIMER_BLOCK => self.wrong_timer_refusal(width, offset, value),
             _ => Ok(()),
         }
     }
 
     /// An access that should be refused, but is done and does nothing.
-    pub(super) fn ignores(&self, window: u64, width: u64, offset: u64) -> bool {
+    pub(super) fn ignores(&self, window: u64, width: u64, offset: u64, value: u64) -> bool {
         let timers = window == TIMER_BLOCK && width == 8;
         match self.mistake {
             Mistake::AlignmentIgnored => timers && !offset.is_multiple_of(8) && offset < WINDOW_END,
             Mistake::WindowEndTaken => timers && offset == WINDOW_END,
-            _ => false,
+            _ => self.ignores_width(window, width, offset, value),
         }
     }
 
-    pub(super) fn wrong_read(&self, window: u64, offset: u64, value: u64) -> u64 {
+    pub(super) fn wrong_read(&self, window: u64, width: u64, offset: u64, value: u64) -> u64 {
         if window == TIMER_BLOCK {
-            return self.wrong_timer_read(offset, value);
+            let whole = self.wrong_register(register_at(offset));
+            return self.wrong_part(Part::reached_by(width, offset), whole);
         }
         let index = self.board.controller.index;
         if offset != DATA {
@@ -80,24 +86,26 @@ impl Wrong {
         }
     }
 
-    fn wrong_timer_read(&self, offset: u64, value: u64) -> u64 {
+    /// What a timer register reads as a whole.
+    fn wrong_register(&self, register: u64) -> u64 {
+        let value = self.board.timers.read_register(register);
         let remembers = matches!(
             self.mistake,
             Mistake::EdgeTypeKeepsStatus | Mistake::RouteAboveKeepsStatus | Mistake::EdgeSetsStatus
         );
-        if offset == STATUS && remembers {
+        if register == STATUS && remembers {
             return (0..TIMERS).fold(value, |all, n| all | u64::from(self.memory.bits[n]) << n);
         }
         for n in 0..TIMERS {
             let timer = &self.board.timers.timer[n];
-            if offset == configuration_of(n) {
+            if register == configuration_of(n) {
                 return match self.mistake {
                     Mistake::BitSixHidden => value & !bits::SET_COMPARATOR,
                     Mistake::BitSixKept if self.memory.bits[n] => value | bits::SET_COMPARATOR,
                     _ => value,
                 };
             }
-            if offset == comparator_of(n) && self.has(Mistake::PeriodReads) && timer.periodic {
+            if register == comparator_of(n) && self.has(Mistake::PeriodReads) && timer.periodic {
                 return timer.period;
             }
         }

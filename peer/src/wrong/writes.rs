@@ -1,14 +1,15 @@
 //! Mistakes in register writes.
 
 use super::{Mistake, Wrong};
-use crate::board::{Board, Calls, Refusal, CONTROLLER, TIMER_BLOCK};
+use crate::board::{check_access, check_value, Board, Calls, Refusal, CONTROLLER, TIMER_BLOCK};
 use crate::controller::{DATA, INDEX};
+use crate::part::PartWrite;
 use crate::pin::{ACTIVE_LOW, MASK, REMOTE_IRR};
 use crate::timer::bits;
 use crate::timers::{comparator_of, configuration_of, COUNTER, ENABLE, STATUS, TIMERS};
 
 /// The upper half of a number.
-const UPPER: u64 = 0xFFFF_FFFF_0000_0000;
+pub(super) const UPPER: u64 = 0xFFFF_FFFF_0000_0000;
 
 impl Wrong {
     pub(super) fn wrong_write(
@@ -18,24 +19,39 @@ impl Wrong {
         offset: u64,
         value: u64,
     ) -> Result<(), Refusal> {
-        let before = self.board;
         let value = match self.mistake {
             Mistake::BigValueTaken if window == CONTROLLER => value & !UPPER,
+            Mistake::BigHalfTaken if window == TIMER_BLOCK && width == 4 => value & !UPPER,
             Mistake::IndexSixBits if window == CONTROLLER && offset == INDEX => {
                 value & (UPPER | 0x3F)
             }
             _ => value,
         };
-        if window == TIMER_BLOCK && width == 8 && self.goes_its_own_way(offset, value) {
-            return Ok(());
-        }
-        self.board.write(window, width, offset, value)?;
         if window == TIMER_BLOCK {
-            self.damage_timer_write(&before, offset, value);
-            self.damage_step(&before);
-        } else if offset == DATA {
+            return self.wrong_timer_write(width, offset, value);
+        }
+        let before = self.board;
+        self.board.write(window, width, offset, value)?;
+        if offset == DATA {
             self.damage_data_write(&before, value as u32);
         }
+        Ok(())
+    }
+
+    fn wrong_timer_write(&mut self, width: u64, offset: u64, value: u64) -> Result<(), Refusal> {
+        check_access(TIMER_BLOCK, width, offset)?;
+        check_value(width, value)?;
+        let before = self.board;
+        let write = before.timers.part_write(width, offset, value);
+        if self.goes_its_own_way(&write) || self.goes_its_own_half_way(&write) {
+            return Ok(());
+        }
+        self.board.write(TIMER_BLOCK, width, offset, value)?;
+        self.damage_timer_write(&before, &write);
+        if write.part.is_half() {
+            self.damage_half_write(&before, &write);
+        }
+        self.damage_step(&before);
         Ok(())
     }
 
@@ -82,51 +98,62 @@ impl Wrong {
     }
 
     /// Writes that the wrong model doesn't hand on; answers whether it was one.
-    fn goes_its_own_way(&mut self, offset: u64, value: u64) -> bool {
-        let route = value >> bits::ROUTE_SHIFT & bits::ROUTE_MASK;
-        let configuration = (0..TIMERS).any(|n| offset == configuration_of(n));
+    fn goes_its_own_way(&mut self, write: &PartWrite) -> bool {
+        let route = write.replaced >> bits::ROUTE_SHIFT & bits::ROUTE_MASK;
         match self.mistake {
-            Mistake::RouteAboveIgnoresAll => configuration && route > 23,
-            Mistake::CounterNeverWritten => offset == COUNTER,
-            Mistake::CounterWriteTaken if offset == COUNTER => {
-                self.board.timers.counter = value;
+            Mistake::RouteAboveIgnoresAll => is_configuration(write.register) && route > 23,
+            Mistake::CounterNeverWritten => write.register == COUNTER,
+            Mistake::CounterWriteTaken if write.register == COUNTER => {
+                self.board.timers.counter = write.replaced;
                 true
             }
-            Mistake::StatusZeroClears if offset == STATUS => {
-                self.board.timers.write(STATUS, !value);
-                self.board.settle();
+            Mistake::StatusZeroClears if write.register == STATUS => {
+                self.write_register(STATUS, !write.alone());
                 true
             }
-            Mistake::GlitchingWrite if configuration => {
-                self.board.timers.write(offset, value & !bits::INTERRUPT);
-                self.board.settle();
-                false
+            Mistake::GlitchingWrite if is_configuration(write.register) => {
+                self.write_in_two_steps(write);
+                true
             }
             _ => false,
         }
     }
 
-    fn damage_timer_write(&mut self, before: &Board, offset: u64, value: u64) {
+    /// A step in which a whole register is written.
+    pub(super) fn write_register(&mut self, register: u64, value: u64) {
+        self.board.timers.write(8, register, value);
+        self.board.settle();
+    }
+
+    /// A configuration write that turns the interrupt off first.
+    pub(super) fn write_in_two_steps(&mut self, write: &PartWrite) {
+        self.write_register(write.register, write.replaced & !bits::INTERRUPT);
+        self.write_register(write.register, write.replaced);
+    }
+
+    fn damage_timer_write(&mut self, before: &Board, write: &PartWrite) {
+        let register = write.register;
         let silent = match self.mistake {
             Mistake::SilentRegisterWrite => true,
-            Mistake::SilentEnable => offset == ENABLE,
-            Mistake::SilentDisable => offset == ENABLE && !self.board.timers.enabled,
-            Mistake::SilentStatusClear => offset == STATUS,
+            Mistake::SilentEnable => register == ENABLE,
+            Mistake::SilentDisable => register == ENABLE && !self.board.timers.enabled,
+            Mistake::SilentStatusClear => register == STATUS,
             _ => false,
         };
         if silent {
             self.restore_held(before);
         }
-        if offset == ENABLE {
+        if register == ENABLE {
             self.damage_enable(before);
         }
-        if offset == STATUS {
-            (0..TIMERS).for_each(|n| self.memory.bits[n] &= value >> n & 1 == 0);
+        if register == STATUS {
+            let cleared = write.alone();
+            (0..TIMERS).for_each(|n| self.memory.bits[n] &= cleared >> n & 1 == 0);
         }
         for n in 0..TIMERS {
-            if offset == configuration_of(n) {
-                self.damage_configuration(before, n, value);
-            } else if offset == comparator_of(n) {
+            if register == configuration_of(n) {
+                self.damage_configuration(before, n, write.replaced);
+            } else if register == comparator_of(n) {
                 self.damage_comparator(before, n);
             }
         }
@@ -135,10 +162,7 @@ impl Wrong {
     fn damage_enable(&mut self, before: &Board) {
         let enabled = self.board.timers.enabled;
         match self.mistake {
-            Mistake::DisableClears if !enabled => {
-                self.board.timers.write(STATUS, 7);
-                self.board.settle();
-            }
+            Mistake::DisableClears if !enabled => self.write_register(STATUS, 7),
             Mistake::EnableResetsCounter if enabled && !before.timers.enabled => {
                 self.board.timers.counter = 0;
             }
@@ -148,6 +172,7 @@ impl Wrong {
 
     fn damage_configuration(&mut self, before: &Board, n: usize, value: u64) {
         let old = before.timers.timer[n];
+        self.memory.first_half[n] = None;
         let timer = &mut self.board.timers.timer[n];
         let route = value >> bits::ROUTE_SHIFT & bits::ROUTE_MASK;
         match self.mistake {
@@ -214,4 +239,9 @@ impl Wrong {
             _ => {}
         }
     }
+}
+
+/// It is some timer's configuration.
+pub(super) fn is_configuration(register: u64) -> bool {
+    (0..TIMERS).any(|n| register == configuration_of(n))
 }

@@ -3,7 +3,21 @@
 
 use peer::board::{Board, Calls, CONTROLLER, TIMER_BLOCK};
 use peer::controller::{DATA, INDEX};
+use peer::timer::bits;
 use peer::timers::{comparator_of, configuration_of, COUNTER, ENABLE, STATUS};
+
+// a timer's configuration
+pub const LEVEL_TYPE: u64 = 1 << 1;
+pub const INTERRUPT: u64 = 1 << 2;
+pub const PERIODIC: u64 = 1 << 3;
+pub const SET: u64 = 1 << 6;
+pub const NARROW: u64 = 1 << 8;
+/// What a timer's configuration reads after a reset.
+pub const FIXED: u64 = 0x00FF_FFFF_0000_0030;
+
+/// An edge entry with vector 0x30, and an active-low one.
+pub const EDGE: u64 = 0x30;
+pub const EDGE_LOW: u64 = 0x2030;
 
 pub struct Desk(pub Board);
 
@@ -55,6 +69,16 @@ impl Desk {
         self.0.write(TIMER_BLOCK, 8, offset, value).unwrap();
     }
 
+    /// A 4-byte read.
+    pub fn get_half(&mut self, offset: u64) -> u64 {
+        self.0.read(TIMER_BLOCK, 4, offset).unwrap()
+    }
+
+    /// A 4-byte write.
+    pub fn set_half(&mut self, offset: u64, value: u64) {
+        self.0.write(TIMER_BLOCK, 4, offset, value).unwrap();
+    }
+
     pub fn enable(&mut self) {
         self.set(ENABLE, 1);
     }
@@ -93,6 +117,22 @@ impl Desk {
 
     pub fn clear(&mut self, bits: u64) {
         self.set(STATUS, bits);
+    }
+
+    /// Timer 0 with this configuration, comparator and period; bit 6 as in the configuration.
+    pub fn with_numbers(configuration: u64, comparator: u64, period: u64) -> Desk {
+        let mut desk = Desk::new();
+        desk.configure(0, configuration & bits::NARROW | bits::PERIODIC | bits::SET_COMPARATOR);
+        desk.set_comparator(0, comparator);
+        desk.set_comparator(0, period);
+        desk.configure(0, configuration);
+        desk
+    }
+
+    /// Comparator, period and bit 6 of timer 0.
+    pub fn numbers(&self) -> (u64, u64, bool) {
+        let timer = &self.0.timers.timer[0];
+        (timer.comparator, timer.period, timer.set_comparator)
     }
 
     pub fn advance(&mut self, ticks: u32) -> [u32; 3] {

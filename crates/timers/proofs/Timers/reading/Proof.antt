@@ -11,7 +11,7 @@ use Rattle.timers.proofs.Timers.reading.Reads as reads
 use Rattle.timers.proofs.Timers.reading.Lts as lts
 use Rattle.timers.proofs.Timers.aligned.Reads as aligned-reads
 use Rattle.timers.proofs.Timers.refused.Reads as refused-reads
-use Rattle.timers.proofs.Timers.register.Reads as register-reads
+use Rattle.timers.proofs.Timers.shown.Reads as shown-reads
 
 aligned-requires : tie.Need-aligned-requires
 aligned-requires c κs = search needs
@@ -29,12 +29,13 @@ returns-2 : tie.Need-returns-2
 returns-2 c = let e = c .before .before in
     c .refused2 .ensures ∙ sym (reading-offset _ _ _ (sym (e .before .aligned .ensures) ∙ not-false _ (e .if1 .left)) (c .before .if2 .taken))
 
-register-requires : tie.Need-register-requires
-register-requires c κs = search needs
+shown-requires : tie.Need-shown-requires
+shown-requires c κs = let e = c .before in
+    sym (e .before .aligned .ensures) ∙ not-false _ (e .if1 .left)
 
 returns-3 : tie.Need-returns-3
 returns-3 c = let e = c .before .before in
-    ap (λ (x : ℕ). turn (e .before .before .args .self) (answer.Value x)) (c .register .ensures)
+    ap (λ (x : ℕ). turn (e .before .before .args .self) (answer.Value x)) (c .shown .ensures)
     ∙ sym (reading-done _ _ _ (sym (e .before .aligned .ensures) ∙ not-false _ (e .if1 .left)) (c .before .if2 .left))
 
 pub reading-spec : {M : Type 1} → statement M
@@ -46,5 +47,5 @@ reading-spec =
     returns
     refused-requires-2
     returns-2
-    register-requires
+    shown-requires
     returns-3)
