@@ -2,6 +2,7 @@
 passed=0 failed=0
 
 . tests/build.sh
+. tests/machine.sh
 program() { built_program replay; }
 archive() { built_library nataqvoju; }
 
