@@ -5,7 +5,7 @@
 on_arm() { [ "$(uname -m)" = aarch64 ]; }
 
 # emulation: the array emulator, the words that stand before one of Rattle's programs; none on x86-64. On Arm they are
-# the kit's emulator and C library, as rt itself runs programs. The status is 1 if there is no rt to say where the kit is.
+# the kit's emulator and C library, as rt itself runs programs. The status is 1 without rt, which says where the kit is.
 emulation() {
   local kit
   emulator=()
