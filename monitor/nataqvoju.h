@@ -26,6 +26,10 @@
  *
  * Layout: no byte is padding, every field is an unsigned number, little-endian as the machine is. So a board is saved,
  * compared, sent and restored as 288 plain bytes. docs/MONITOR.md has the rest.
+ *
+ * The board's calls are in libnataqvoju.a. A monitor that shows whether the machine is paused lends a NataqvojuMill
+ * instead, a board with its pause screen, to the one function of libnataqvoju_mill.a (below, "the mill"). What is said
+ * above of a board holds of a mill and its 296 bytes too, but that a read of a mill has to be the only call on it.
  */
 #ifndef NATAQVOJU_H
 #define NATAQVOJU_H
@@ -94,15 +98,18 @@ typedef struct {
     uint8_t logical;     /* bit 11 of the entry */
 } NataqvojuNumbers;
 
-/* NataqvojuNumbers.number. A board that is not well formed is tested for first. An access then tests for the window,
- * width and alignment, the offset, the value; a wire change for the pin, then the level. */
+/* NataqvojuNumbers.number. A board or a mill that is not well formed is tested for first. An access then tests for the
+ * window, width and alignment, the offset, the value; a wire change for the pin, then the level; a telling for the pin,
+ * then its entry. The board's calls give 0 to 5 only. */
 enum {
     NATAQVOJU_DONE = 0,
     NATAQVOJU_NO_PLACE = 1,  /* the window, or the offset in it, doesn't exist */
     NATAQVOJU_BAD_WIDTH = 2, /* width or alignment isn't allowed */
     NATAQVOJU_NO_PIN = 3,    /* pin above 23 */
     NATAQVOJU_BAD_VALUE = 4, /* wire level above 1, or a 4-byte write with a value above 4,294,967,295 */
-    NATAQVOJU_BAD_STATE = 5  /* the lent memory is not a well-formed board */
+    NATAQVOJU_BAD_STATE = 5, /* the lent memory is not a well-formed board, or mill */
+    NATAQVOJU_NO_KIND = 7,   /* the mill has no call of this kind */
+    NATAQVOJU_NOT_EDGE = 14  /* the pause pin that is told has a level entry */
 };
 
 /* ---- windows and registers ---- */
@@ -197,6 +204,105 @@ static inline uint64_t nataqvoju_next_firing(const NataqvojuBoard *board) {
     return least + 1;
 }
 
+/* ---- the mill, of libnataqvoju_mill.a: a board with its pause screen, 296 bytes, alignment 8 ---- */
+
+/* The screen is told which pin is the pause key, and from then on says how far a pause has come. */
+typedef struct {
+    uint16_t told;   /* 1 once a pin is told; 0 before, and after a reset */
+    uint16_t pin;    /* the pause pin, at most 23; 0 if none is told */
+    uint16_t word;   /* what the screen shows, NATAQVOJU_RUNNING to NATAQVOJU_PAUSED; 0 if no pin is told */
+    uint16_t vector; /* taken and paused: the vector that was delivered, at most 255; else 0 */
+} NataqvojuScreen;
+
+/* A mill is well formed if its board is, if the screen's numbers are as above, and if a told pin holds no edge while
+ * the word is running (it would have to be asked). Any other memory gets 5. */
+typedef struct {
+    NataqvojuBoard board;
+    NataqvojuScreen screen;
+} NataqvojuMill;
+
+/* NataqvojuScreen.word. With a told pin it goes from each to the next, and in no other way:
+ *   asked   the pin holds an edge after a call. It stays asked if that edge is lost without a delivery;
+ *   taken   a delivery step gives the pin, whatever its entry is by then. The vector is remembered;
+ *   paused  an end of interrupt with that vector is done, the first after the delivery.
+ * A resume in paused, and a telling in any word, begin again: asked if the pin holds an edge, masked or not, else
+ * running. A reset leaves no pin told, and running. So paused means that the motion program has taken the pause and
+ * ended its interrupt, whatever was written to the entry in between. */
+enum {
+    NATAQVOJU_RUNNING = 0,
+    NATAQVOJU_ASKED = 1,
+    NATAQVOJU_TAKEN = 2,
+    NATAQVOJU_PAUSED = 3
+};
+
+/* The mill's calls, as kinds of its one function: a log's six, then those that no log has. */
+enum {
+    NATAQVOJU_MILL_READ = 1,    /* a window, b width, c offset */
+    NATAQVOJU_MILL_WRITE = 2,   /* a window, b width, c offset, d value */
+    NATAQVOJU_MILL_WIRE = 3,    /* a pin, b level */
+    NATAQVOJU_MILL_END = 4,     /* a vector: its low eight bits */
+    NATAQVOJU_MILL_ADVANCE = 5, /* a ticks: its low 32 bits */
+    NATAQVOJU_MILL_DELIVER = 6,
+    NATAQVOJU_MILL_RESET = 7,
+    NATAQVOJU_MILL_TELL = 8,    /* a pin */
+    NATAQVOJU_MILL_RESUME = 9
+};
+
+/* Any call of the mill, by its kind; the functions below name them. Kinds 1 to 7 do to the board what its own calls do,
+ * with the same numbers and refusals, and then the screen follows. Numbers that a kind doesn't name are ignored. A mill
+ * that is not well formed gets 5 whatever the kind, but for a reset; then a kind that is not in the list gets 7. A
+ * refused call leaves every byte of the mill as it was. */
+NataqvojuNumbers nataqvoju_mill(NataqvojuMill *mill, uint64_t kind, uint64_t a, uint64_t b, uint64_t c, uint64_t d);
+
+/* The reset state of the board, no pin told, whatever was there. Always done. The pause key has to be told again. */
+static inline NataqvojuNumbers nataqvoju_mill_reset(NataqvojuMill *mill) {
+    return nataqvoju_mill(mill, NATAQVOJU_MILL_RESET, 0, 0, 0, 0);
+}
+
+/* A register read: value. Every byte of the mill is as it was, but may be written on the way: unlike the board's read,
+ * this one takes no constant memory, and nothing else may be done with the mill meanwhile. Refused with 5, 1, 2. */
+static inline NataqvojuNumbers nataqvoju_mill_read(NataqvojuMill *mill, uint64_t window, uint64_t width,
+                                                   uint64_t offset) {
+    return nataqvoju_mill(mill, NATAQVOJU_MILL_READ, window, width, offset, 0);
+}
+
+/* A register write. Refused with 5, 1, 2, 4. */
+static inline NataqvojuNumbers nataqvoju_mill_write(NataqvojuMill *mill, uint64_t window, uint64_t width,
+                                                    uint64_t offset, uint64_t value) {
+    return nataqvoju_mill(mill, NATAQVOJU_MILL_WRITE, window, width, offset, value);
+}
+
+/* The outside wire of a pin goes to a level. Refused with 5, 3, 4. */
+static inline NataqvojuNumbers nataqvoju_mill_wire(NataqvojuMill *mill, uint64_t pin, uint64_t level) {
+    return nataqvoju_mill(mill, NATAQVOJU_MILL_WIRE, pin, level, 0, 0);
+}
+
+/* End of interrupt. Refused with 5. */
+static inline NataqvojuNumbers nataqvoju_mill_end(NataqvojuMill *mill, uint8_t vector) {
+    return nataqvoju_mill(mill, NATAQVOJU_MILL_END, vector, 0, 0, 0);
+}
+
+/* So many ticks of the timer block at once: fired. Refused with 5. */
+static inline NataqvojuNumbers nataqvoju_mill_advance(NataqvojuMill *mill, uint32_t ticks) {
+    return nataqvoju_mill(mill, NATAQVOJU_MILL_ADVANCE, ticks, 0, 0, 0);
+}
+
+/* A delivery step: the lowest eligible pin, if there is one. Refused with 5. */
+static inline NataqvojuNumbers nataqvoju_mill_deliver(NataqvojuMill *mill) {
+    return nataqvoju_mill(mill, NATAQVOJU_MILL_DELIVER, 0, 0, 0, 0);
+}
+
+/* This pin is the pause key, also if another was told before. Refused with 5, 3, 14: its entry has to be an edge entry
+ * now, as every entry is after a reset; what the motion program writes to it later is not refused. */
+static inline NataqvojuNumbers nataqvoju_mill_tell(NataqvojuMill *mill, uint64_t pin) {
+    return nataqvoju_mill(mill, NATAQVOJU_MILL_TELL, pin, 0, 0, 0);
+}
+
+/* The work goes on after a pause. In another word than paused it is done and changes nothing. Refused with 5. */
+static inline NataqvojuNumbers nataqvoju_mill_resume(NataqvojuMill *mill) {
+    return nataqvoju_mill(mill, NATAQVOJU_MILL_RESUME, 0, 0, 0, 0);
+}
+
 /* ---- the layout, checked where this header is compiled ---- */
 
 #if defined(__cplusplus)
@@ -255,6 +361,18 @@ NATAQVOJU_AT(NataqvojuNumbers, destination, 30);
 NATAQVOJU_AT(NataqvojuNumbers, logical, 31);
 NATAQVOJU_CHECK(sizeof(NataqvojuNumbers) == 32);
 NATAQVOJU_ALIGNED(NataqvojuNumbers, 8);
+
+NATAQVOJU_AT(NataqvojuScreen, told, 0);
+NATAQVOJU_AT(NataqvojuScreen, pin, 2);
+NATAQVOJU_AT(NataqvojuScreen, word, 4);
+NATAQVOJU_AT(NataqvojuScreen, vector, 6);
+NATAQVOJU_CHECK(sizeof(NataqvojuScreen) == 8);
+NATAQVOJU_ALIGNED(NataqvojuScreen, 2);
+
+NATAQVOJU_AT(NataqvojuMill, board, 0);
+NATAQVOJU_AT(NataqvojuMill, screen, 288);
+NATAQVOJU_CHECK(sizeof(NataqvojuMill) == 296);
+NATAQVOJU_ALIGNED(NataqvojuMill, 8);
 
 #undef NATAQVOJU_AT
 #undef NATAQVOJU_ALIGNED

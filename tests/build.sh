@@ -13,9 +13,16 @@ built_program() {
   rt check "$1" && [ -x "$program" ] && touch "$program"
 }
 
-# built_library NAME: target/staticlib/libNAME.a, proved and built if it is stale
+# The libraries that a monitor links: the board's seven functions, and the mill's one.
+libraries=(nataqvoju nataqvoju_mill)
+
+# archive_of NAME: the path of a library
+archive_of() { echo "target/staticlib/lib$1.a"; }
+
+# built_library NAME: the library, proved and built if it is stale
 built_library() {
-  local archive=target/staticlib/lib$1.a
+  local archive
+  archive=$(archive_of "$1")
   stale "$archive" || return 0
   rm -f "$archive"
   rt staticlib "$1" && [ -f "$archive" ]

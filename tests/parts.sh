@@ -4,7 +4,10 @@ passed=0 failed=0
 . tests/build.sh
 . tests/machine.sh
 program() { built_program replay; }
-archive() { built_library nataqvoju; }
+archives() {
+  local name
+  for name in "${libraries[@]}"; do built_library "$name" || return; done
+}
 
 # tallied SAID STATUS: the counts of a command that printed SAID and ended with STATUS, as 'N M'. They are those of its
 # last line, 'N passed, M failed'. No such line, nothing counted, or a status that does not fit: a failure.

@@ -2,8 +2,6 @@
 
 use std::process::Command;
 
-use peer::abi::Board;
-
 use crate::rows::{self, Taker};
 use crate::TIMES;
 
@@ -26,13 +24,13 @@ pub fn print() -> Result<(), String> {
 struct Names(Vec<&'static str>);
 
 impl Taker for Names {
-    fn take(
+    fn take<Lent: Copy>(
         &mut self,
         name: &'static str,
-        _: &Board,
-        _: impl Fn(&mut Board),
-        _: impl Fn(&mut Board),
-        _: impl Fn(&mut Board),
+        _: &Lent,
+        _: impl Fn(&mut Lent),
+        _: impl Fn(&mut Lent),
+        _: impl Fn(&mut Lent),
     ) {
         self.0.push(name);
     }

@@ -17,6 +17,7 @@ use peer::board;
 use peer::generate::{self, random_board, Profile};
 use peer::log::{records_of, replay, Record, LONGEST};
 use peer::random::Random;
+use peer::sequence::mill;
 use rows::Taker;
 use table::{Advances, Table};
 
@@ -34,7 +35,8 @@ bench once SIDE CALL
 bench replay FILE
     Replays a log with the plain calls; the table times the library's program beside it.
 
-NATAQVOJU_LIB_DIR, when this is built, names the folder that has libnataqvoju.a;
+NATAQVOJU_LIB_DIR, when this is built, names the folder that has libnataqvoju.a and
+libnataqvoju_mill.a;
 NATAQVOJU_REPLAY names the program that replays a log, and NATAQVOJU_PEER the second program
 (without it, the one that is built beside this package).
 Exit status: 0 all limits hold, 1 some don't, 2 something is missing.
@@ -110,6 +112,15 @@ fn check_plain() -> Result<(), String> {
             }
         }
     }
+    for step in mill::Maker::new(7).round().iter().flat_map(mill::Sequence::steps) {
+        let (mut plain, mut library, call) = (step.before, step.before, step.call);
+        if plain::mill(&mut plain, call) != step.reply || plain != step.after {
+            return Err(format!("plain Rust answers {call:?} wrongly"));
+        }
+        if lent::mill(&mut library, call) != step.reply || library != step.after {
+            return Err(format!("the library answers {call:?} wrongly; run mill-check"));
+        }
+    }
     Ok(())
 }
 
@@ -131,25 +142,25 @@ struct Once<'name> {
 }
 
 impl Taker for Once<'_> {
-    fn take(
+    fn take<Lent: Copy>(
         &mut self,
         name: &'static str,
-        start: &Board,
-        again: impl Fn(&mut Board),
-        library: impl Fn(&mut Board),
-        plain: impl Fn(&mut Board),
+        start: &Lent,
+        again: impl Fn(&mut Lent),
+        library: impl Fn(&mut Lent),
+        plain: impl Fn(&mut Lent),
     ) {
         if name != self.name {
             return;
         }
         self.found = true;
-        let mut board = *start;
+        let mut lent = *start;
         for _ in 0..TIMES {
-            again(&mut board);
+            again(&mut lent);
             if self.library {
-                library(&mut board);
+                library(&mut lent);
             } else {
-                plain(&mut board);
+                plain(&mut lent);
             }
         }
     }

@@ -2,6 +2,7 @@
 
 use std::hint::black_box;
 
+use peer::abi::mill::{kind, Mill, MillCall, Screen};
 use peer::abi::{Board, Call};
 use peer::board;
 use peer::timer::bits;
@@ -16,16 +17,19 @@ pub const ADVANCE_IDLE: &str = "advance by 4,294,967,295, nothing due";
 /// The full advance that has the most to do.
 pub const ADVANCE_BUSY: &str = "advance by 4,294,967,295, three timers of period 1";
 
+/// What the names of the mill's rows start with.
+pub const MILL: &str = "mill, ";
+
 /// Takes the rows one by one: to time them, or to make one of them over and over.
 pub trait Taker {
-    /// A row: a board, what puts back what the call uses up, and the call on both sides.
-    fn take(
+    /// A row: a board or a mill, what puts back what the call uses up, and the call on both sides.
+    fn take<Lent: Copy>(
         &mut self,
         name: &'static str,
-        start: &Board,
-        again: impl Fn(&mut Board),
-        library: impl Fn(&mut Board),
-        plain: impl Fn(&mut Board),
+        start: &Lent,
+        again: impl Fn(&mut Lent),
+        library: impl Fn(&mut Lent),
+        plain: impl Fn(&mut Lent),
     );
 }
 
@@ -42,8 +46,32 @@ macro_rules! row {
     };
 }
 
+/// The same for a call of the mill.
+macro_rules! mill_row {
+    ($taker:ident, $name:expr, $again:expr, $kind:expr, $numbers:expr) => {
+        $taker.take(
+            $name,
+            &mill(),
+            $again,
+            |mill| {
+                let call = MillCall { kind: $kind, numbers: $numbers };
+                black_box(lent::mill(mill, black_box(call)));
+            },
+            |mill| {
+                let call = MillCall { kind: $kind, numbers: $numbers };
+                black_box(plain::mill(mill, black_box(call)));
+            },
+        )
+    };
+}
+
 /// All rows.
 pub fn each(taker: &mut impl Taker) {
+    of_the_board(taker);
+    of_the_mill(taker);
+}
+
+fn of_the_board(taker: &mut impl Taker) {
     let board = scene();
     let keep = |_: &mut Board| {};
     row!(taker, "reset", &board, keep, reset());
@@ -72,6 +100,48 @@ pub fn each(taker: &mut impl Taker) {
     row!(taker, ADVANCE_ONE, &board, keep, advance(1));
     row!(taker, ADVANCE_IDLE, &board, keep, advance(u32::MAX));
     row!(taker, ADVANCE_BUSY, &busy(), keep, advance(u32::MAX));
+}
+
+/// The pin of the pause key.
+const KEY: u8 = 14;
+/// Its vector in the scene.
+const VECTOR: u8 = 0x20 + KEY;
+
+/// The rows of the screen's own calls, and of calls that move it.
+fn of_the_mill(taker: &mut impl Taker) {
+    let keep = |_: &mut Mill| {};
+    mill_row!(taker, "mill, read, low word", keep, kind::READ, [0, 4, 0x10, 0]);
+    mill_row!(taker, "mill, write, low word", keep, kind::WRITE, [0, 4, 0x10, 0x0000_8031]);
+    let lower = |mill: &mut Mill| {
+        mill.board.outside[usize::from(KEY)] = 0;
+        mill.board.controller.entries.level[usize::from(KEY)] = 0;
+        mill.board.controller.entries.held[usize::from(KEY)] = 0;
+        mill.screen.word = 0;
+    };
+    mill_row!(taker, "mill, wire, asked", lower, kind::WIRE, [KEY.into(), 1, 0, 0]);
+    let press = |mill: &mut Mill| {
+        mill.board.controller.entries.held[usize::from(KEY)] = 1;
+        mill.screen.word = 1;
+        mill.screen.vector = 0;
+    };
+    mill_row!(taker, "mill, deliver, taken", press, kind::DELIVER, [0; 4]);
+    let take = |mill: &mut Mill| {
+        mill.screen.word = 2;
+        mill.screen.vector = VECTOR.into();
+    };
+    mill_row!(taker, "mill, end, paused", take, kind::END, [VECTOR.into(), 0, 0, 0]);
+    mill_row!(taker, "mill, advance by 1", keep, kind::ADVANCE, [1, 0, 0, 0]);
+    mill_row!(taker, "mill, tell", keep, kind::TELL, [KEY.into(), 0, 0, 0]);
+    let pause = |mill: &mut Mill| {
+        mill.screen.word = 3;
+        mill.screen.vector = VECTOR.into();
+    };
+    mill_row!(taker, "mill, resume", pause, kind::RESUME, [0; 4]);
+}
+
+/// The scene, and a screen that was told its key.
+fn mill() -> Mill {
+    Mill { board: scene(), screen: Screen { told: 1, pin: KEY.into(), word: 0, vector: 0 } }
 }
 
 /// All pins unmasked edge pins, the block enabled, nothing due for a very long time.

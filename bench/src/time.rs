@@ -4,8 +4,6 @@ use std::hint::black_box;
 use std::process::{Command, Stdio};
 use std::time::{Duration, Instant};
 
-use peer::abi::Board;
-
 /// Rounds of which the best counts.
 const ROUNDS: u32 = 60;
 /// Runs of a program of which the best counts.
@@ -38,19 +36,19 @@ impl Pair {
 }
 
 /// Times a call on both sides. `again` puts back what the call uses up; it is part of both times.
-pub fn calls(
-    start: &Board,
-    again: impl Fn(&mut Board),
-    library: impl Fn(&mut Board),
-    plain: impl Fn(&mut Board),
+pub fn calls<Lent: Copy>(
+    start: &Lent,
+    again: impl Fn(&mut Lent),
+    library: impl Fn(&mut Lent),
+    plain: impl Fn(&mut Lent),
 ) -> Pair {
-    let library = Side::new(start, |board| {
-        again(board);
-        library(board);
+    let library = Side::new(start, |lent| {
+        again(lent);
+        library(lent);
     });
-    let plain = Side::new(start, |board| {
-        again(board);
-        plain(board);
+    let plain = Side::new(start, |lent| {
+        again(lent);
+        plain(lent);
     });
     let mut best = Pair::WORST;
     for _ in 0..ROUNDS {
@@ -60,14 +58,14 @@ pub fn calls(
     best
 }
 
-struct Side<'start, Run> {
-    start: &'start Board,
+struct Side<'start, Lent, Run> {
+    start: &'start Lent,
     run: Run,
     repeats: u32,
 }
 
-impl<'start, Run: Fn(&mut Board)> Side<'start, Run> {
-    fn new(start: &'start Board, run: Run) -> Self {
+impl<'start, Lent: Copy, Run: Fn(&mut Lent)> Side<'start, Lent, Run> {
+    fn new(start: &'start Lent, run: Run) -> Self {
         let mut side = Side { start, run, repeats: 1 };
         while side.time() < ROUND && side.repeats < 1 << 24 {
             side.repeats *= 2;
@@ -76,10 +74,10 @@ impl<'start, Run: Fn(&mut Board)> Side<'start, Run> {
     }
 
     fn time(&self) -> Duration {
-        let mut board = *self.start;
+        let mut lent = *self.start;
         let begin = Instant::now();
         for _ in 0..self.repeats {
-            (self.run)(black_box(&mut board));
+            (self.run)(black_box(&mut lent));
         }
         begin.elapsed()
     }

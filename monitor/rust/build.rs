@@ -1,4 +1,5 @@
-// Links libnataqvoju.a, which `./nataqvoju library` makes, from the folder that NATAQVOJU_LIB_DIR names.
+// Links libnataqvoju.a and libnataqvoju_mill.a, which `./nataqvoju library` makes, from the folder that NATAQVOJU_LIB_DIR
+// names.
 use std::env;
 use std::path::Path;
 
@@ -7,14 +8,16 @@ fn main() {
     let dir = env::var("NATAQVOJU_LIB_DIR").unwrap_or_else(|_| {
         panic!("set NATAQVOJU_LIB_DIR to the folder of libnataqvoju.a (target/staticlib after `./nataqvoju library`)")
     });
-    let archive = Path::new(&dir).join("libnataqvoju.a");
-    if !archive.is_file() {
-        panic!(
-            "{} is not there: run `./nataqvoju library`, and give NATAQVOJU_LIB_DIR as an absolute path",
-            archive.display()
-        );
-    }
-    println!("cargo:rerun-if-changed={}", archive.display());
     println!("cargo:rustc-link-search=native={dir}");
-    println!("cargo:rustc-link-lib=static=nataqvoju");
+    for library in ["nataqvoju", "nataqvoju_mill"] {
+        let archive = Path::new(&dir).join(format!("lib{library}.a"));
+        if !archive.is_file() {
+            panic!(
+                "{} is not there: run `./nataqvoju library`, and give NATAQVOJU_LIB_DIR as an absolute path",
+                archive.display()
+            );
+        }
+        println!("cargo:rerun-if-changed={}", archive.display());
+        println!("cargo:rustc-link-lib=static={library}");
+    }
 }

@@ -1,4 +1,5 @@
-//! Links the static library `nataqvoju`, which NATAQVOJU_LIB_DIR says where to find.
+//! Links the static libraries `nataqvoju` and `nataqvoju_mill`, which NATAQVOJU_LIB_DIR says where to find. The second
+//! one is left out where it isn't there: the stand-in's libnataqvoju.a has the mill's entry itself.
 
 use std::path::Path;
 
@@ -14,6 +15,11 @@ fn main() {
     println!("cargo:rerun-if-changed={}", library.display());
     println!("cargo:rustc-link-search=native={folder}");
     println!("cargo:rustc-link-lib=static=nataqvoju");
+    let mill = Path::new(&folder).join("libnataqvoju_mill.a");
+    println!("cargo:rerun-if-changed={}", mill.display());
+    if mill.is_file() {
+        println!("cargo:rustc-link-lib=static=nataqvoju_mill");
+    }
 }
 
 fn fail(message: &str) -> ! {

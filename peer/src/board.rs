@@ -20,10 +20,12 @@ pub enum Refusal {
     State = 5,
     /// Log: wrong mark.
     Mark = 6,
-    /// Log: unknown kind.
+    /// Log, or a lent entry over a kind: unknown kind.
     Kind = 7,
     /// Log: record cut short.
     Short = 8,
+    /// The pause key's entry isn't an edge entry.
+    Trigger = 14,
 }
 
 impl Refusal {
@@ -174,7 +176,7 @@ fn add(sum: &mut [u32; TIMERS], more: [u32; TIMERS]) {
     }
 }
 
-fn refuse_unless(condition: bool, refusal: Refusal) -> Result<(), Refusal> {
+pub(crate) fn refuse_unless(condition: bool, refusal: Refusal) -> Result<(), Refusal> {
     if condition {
         Ok(())
     } else {

@@ -4,8 +4,8 @@
 //! struct for each pin, wires that settle step by step, and time that jumps from one tick at
 //! which a pin can change to the next. The first program is compared with it.
 //!
-//! - [`pin`], [`controller`], [`part`], [`timer`], [`timers`], [`board`]: the model.
-//! - [`log`]: event logs, read and replayed.
+//! - [`pin`], [`controller`], [`part`], [`timer`], [`timers`], [`board`], [`mill`]: the model.
+//! - [`log`], [`screen`]: event logs, read and replayed, on a board and on a mill.
 //! - [`generate`], [`events`], [`shrink`], [`fuzz`]: random logs, what happens in them, and the
 //!   comparison with another program.
 //! - [`abi`], [`sequence`]: the lent entry's memory layout and its answers; random sequences of
@@ -19,10 +19,12 @@ pub mod events;
 pub mod fuzz;
 pub mod generate;
 pub mod log;
+pub mod mill;
 pub mod mutants;
 pub mod part;
 pub mod pin;
 pub mod random;
+pub mod screen;
 pub mod sequence;
 pub mod shrink;
 pub mod timer;

@@ -9,6 +9,7 @@ use peer::fuzz::{self, FIXED_SEED, GATE_LOGS, LONG_LOGS};
 use peer::generate::Profile;
 use peer::log::replay_from_reset;
 use peer::mutants;
+use peer::screen::{pin_of, screen_from_reset};
 
 const HELP: &str = "\
 The second, independent model of the board.
@@ -16,12 +17,17 @@ The second, independent model of the board.
   peer replay [FILE]
       Replays a log from FILE, or from standard input.
 
+  peer screen PIN [FILE]
+      The same on a mill whose pause key is told to be PIN, a decimal number, with the words of its
+      pause screen.
+
   peer fuzz --replay PATH [--seed N] [--logs N] [--profile NAME] [--long]
+  peer fuzz --screen PATH [--seed N] [--logs N] [--profile NAME] [--long]
       Makes random logs, runs the program at PATH on each and compares its output with this
-      program's, byte for byte. The first difference is shrunk and shown. Profiles: valid,
-      adversarial, timers, controller, torn; all in turn without --profile. A profile of which
-      enough logs were made has to reach every event that it is meant to reach. --long takes a
-      fresh seed and many logs.
+      program's, byte for byte; --screen gives it a pin before the log. The first difference is
+      shrunk and shown. Profiles: valid, adversarial, timers, controller, pause, torn; all in turn
+      without --profile. A profile of which enough logs were made has to reach every event that it
+      is meant to reach. --long takes a fresh seed and many logs.
 
   peer mutants [--seed N] [--logs N]
       Compares wrong models with the right one; every mistake has to be found.
@@ -42,6 +48,8 @@ fn main() -> ExitCode {
         }
         ["replay"] => replay_command(None),
         ["replay", file] => replay_command(Some(file)),
+        ["screen", pin] => screen_command(pin, None),
+        ["screen", pin, file] => screen_command(pin, Some(file)),
         ["fuzz", options @ ..] => fuzz_command(options),
         ["mutants", options @ ..] => mutants_command(options),
         _ => Err(format!("this isn't a command: {}\n\n{HELP}", words.join(" "))),
@@ -57,11 +65,22 @@ fn main() -> ExitCode {
 }
 
 fn replay_command(file: Option<&str>) -> Result<bool, String> {
-    let log = match file {
-        Some(file) => std::fs::read(file).map_err(|error| format!("can't read {file}: {error}"))?,
-        None => read_input().map_err(|error| format!("can't read standard input: {error}"))?,
-    };
-    let output = replay_from_reset(&log);
+    print_all(&replay_from_reset(&log_from(file)?))
+}
+
+fn screen_command(pin: &str, file: Option<&str>) -> Result<bool, String> {
+    let pin = pin_of(pin).ok_or_else(|| format!("the pin is a decimal number, not {pin}"))?;
+    print_all(&screen_from_reset(pin, &log_from(file)?))
+}
+
+fn log_from(file: Option<&str>) -> Result<Vec<u8>, String> {
+    match file {
+        Some(file) => std::fs::read(file).map_err(|error| format!("can't read {file}: {error}")),
+        None => read_input().map_err(|error| format!("can't read standard input: {error}")),
+    }
+}
+
+fn print_all(output: &str) -> Result<bool, String> {
     std::io::stdout()
         .write_all(output.as_bytes())
         .map_err(|error| format!("can't write the output: {error}"))?;
@@ -75,12 +94,15 @@ fn read_input() -> std::io::Result<Vec<u8>> {
 }
 
 fn fuzz_command(words: &[&str]) -> Result<bool, String> {
-    let mut program = None;
+    let (mut program, mut screen) = (None, false);
     let (mut seed, mut logs, mut profile, mut long) = (None, None, None, false);
     let mut words = words.iter();
     while let Some(&word) = words.next() {
         match word {
-            "--replay" => program = Some(PathBuf::from(value_of(word, words.next())?)),
+            "--replay" | "--screen" if program.is_none() => {
+                program = Some(PathBuf::from(value_of(word, words.next())?));
+                screen = word == "--screen";
+            }
             "--seed" => seed = Some(number_of(word, words.next())?),
             "--logs" => logs = Some(number_of(word, words.next())?),
             "--profile" => profile = Some(profile_of(value_of(word, words.next())?)?),
@@ -90,12 +112,17 @@ fn fuzz_command(words: &[&str]) -> Result<bool, String> {
     }
     let (usual_seed, usual_logs) =
         if long { (fresh_seed(), LONG_LOGS) } else { (FIXED_SEED, GATE_LOGS) };
-    fuzz::run(&fuzz::Options {
-        program: program.ok_or("which program? Say --replay PATH")?,
+    let options = fuzz::Options {
+        program: program.ok_or("which program? Say --replay PATH or --screen PATH")?,
         seed: seed.unwrap_or(usual_seed),
         logs: logs.unwrap_or(usual_logs),
         profile,
-    })
+    };
+    if screen {
+        fuzz::run::<fuzz::Screen>(&options)
+    } else {
+        fuzz::run::<fuzz::Replay>(&options)
+    }
 }
 
 fn mutants_command(words: &[&str]) -> Result<bool, String> {

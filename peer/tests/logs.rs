@@ -21,11 +21,11 @@ fn the_seed_and_the_number_decide_a_log() {
 #[test]
 fn only_torn_logs_stop() {
     for number in 0..40 {
-        for profile in &Profile::ALL[..4] {
+        for profile in &Profile::SOUND {
             assert_eq!(records_of(&log(*profile, 9, number)).1, None);
         }
     }
-    let stops = (20..60).filter(|&number| records_of(&log(Profile::Torn, 9, number)).1.is_some());
+    let stops = (30..70).filter(|&number| records_of(&log(Profile::Torn, 9, number)).1.is_some());
     assert!(stops.count() > 20);
 }
 

@@ -1,5 +1,6 @@
 -- The paper's number and values for each answer ("Numbers a call can answer").
 use Prim.Native.Nat.{ℕ}
+use mathlib.Core.Bool.{Bool, true, false}
 use mathlib.Core.List.{List, [], _∷_}
 use Rattle.answers.specs.declared.Refusal.{Refusal}
 use Rattle.answers.specs.declared.Refusal.the-variants as refusal
@@ -18,6 +19,7 @@ numberOf refusal.State = 5
 numberOf refusal.Mark = 6
 numberOf refusal.Kind = 7
 numberOf refusal.Short = 8
+numberOf refusal.NotEdge = 14
 
 -- a number by itself: read value 0, counts 0, no delivery
 abbrev pub bare : ℕ → Numbers
@@ -40,3 +42,12 @@ numbersOf (answer.Fired a b c) = withFired (bare 0) (a ∷ b ∷ c ∷ [])
 numbersOf (answer.Interrupt p v d l) = withDelivery (bare 0) p v d l
 numbersOf answer.Nothing = bare 0
 numbersOf (answer.Refused r) = bare (numberOf r)
+
+-- a call is done, or refused
+abbrev pub isDone : Answer → Bool
+isDone answer.Done = true
+isDone (answer.Value v) = true
+isDone (answer.Fired a b c) = true
+isDone (answer.Interrupt p v d l) = true
+isDone answer.Nothing = true
+isDone (answer.Refused r) = false

@@ -24,6 +24,8 @@ pub enum Refusal {
     Kind,
     // 8: log: record cut short
     Short,
+    // 14: the pause pin's entry isn't an edge entry
+    NotEdge,
 }
 
 pub enum Answer {
@@ -72,6 +74,7 @@ impl Refusal {
             Refusal::Mark => 6,
             Refusal::Kind => 7,
             Refusal::Short => 8,
+            Refusal::NotEdge => 14,
         }
     }
 }

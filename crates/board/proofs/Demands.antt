@@ -101,7 +101,7 @@ module _ (b : Board) (s : Sized b) where
       go true e = passes b 5 ts t (d (formed-in b e s))
       go false e = refuses b 5 ts refusal.State refl
 
-  decided : (c : Call) → DecidedTurn b (testsOf b c) (turnOf b c)
+  pub decided : (c : Call) → Decided Board (testsOf b c) b (turnOf b c .board) (turnOf b c .answer)
   unfolding turnOf servedOf testsOf readingOf writingOf wiringOf endingOf advancingOf deliveringOnBoard numberOf numbersOf
   decided (call.Read n w o) =
       first-test _ _

@@ -9,6 +9,7 @@ pub mod Strikes
 pub mod At
 pub mod Served
 pub mod Keeps
+pub mod Events
 pub mod Runs
 pub mod Held
 pub mod Steps

@@ -56,6 +56,11 @@ module _ (b : Board) where
   unfolding servedOf
   served-deliver = refl
 
+  -- an end of interrupt is done
+  pub ending-done : (vector : ℕ) → endingOf b vector .answer ≡ answer.Done
+  unfolding endingOf
+  ending-done vector = refl
+
   -- whatever the board was
   pub turn-reset : turnOf b call.Reset ≡ turn resetBoard answer.Done
   unfolding turnOf servedOf

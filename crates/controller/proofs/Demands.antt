@@ -4,8 +4,9 @@ use mathlib.Core.Bool.{Bool, true, false, not, cond, _||_}
 use mathlib.Core.List.{List, [], _∷_}
 use Prim.Native.Nat.{ℕ, _+_, _-_, _*_, _/_, _%_, _^_, _<_, _≤_}
 use native.Mathlib.Omega.{arith}
+use native.Mathlib.Nat.{mod-lt}
 use mir.Val.{boolByte}
-use lib.Dec.{T, eqb, leb, ltb}
+use lib.Dec.{T, eqb, leb, ltb, lit<}
 use lib.ListN.{set}
 use borrow.Author.Tests.{lt-ltb, le-ltb, lt-leb, ltb-true, ltb-false, ne-eqb}
 use Rattle.answers.specs.declared.Answer.{Answer}
@@ -17,7 +18,7 @@ use Rattle.answers.specs.Order.{Test, test, Given}
 use Rattle.answers.proofs.Order.{only-if, if, Decided, done-decided, refused-decided, then-decided}
 use Rattle.answers.proofs.Refused.{answerNumber, refused-bare, one-result}
 use Rattle.entries.specs.declared.Entries.{Entries}
-use Rattle.entries.specs.Table.{firstEligible, eligibleAt, given, taken, lowShown}
+use Rattle.entries.specs.Table.{lowAt, firstEligible, eligibleAt, given, taken, lowShown}
 use Rattle.entries.proofs.Delivery.{Lowest, first-eligible-le, lowest-found, lowest-of, none-eligible, none-eligible-of, bit-12}
 use Rattle.controller.specs.declared.Controller.{Controller}
 use Rattle.controller.specs.declared.Turn.{Turn}
@@ -143,6 +144,15 @@ module _ (c : Controller) where
 
   abbrev e : Entries
   e = c .entries
+
+  -- a vector has eight bits
+  pub delivering-vector : numbersOf (deliveringOf c .answer) .vector < 2 ^ 8
+  unfolding deliveringOf numbersOf
+  delivering-vector = go (ltb (firstEligible e) 24)
+    where
+      go : (x : Bool) → numbersOf (cond x (turn (withEntries c (taken e (firstEligible e))) (given e (firstEligible e))) (turn c answer.Nothing) .answer) .vector < 2 ^ 8
+      go true = mod-lt (lowAt e (firstEligible e)) (lit< tt)
+      go false = lit< tt
 
   pub delivers-if : (p : ℕ) → wellFormed c ≡ true → p < 24 → Lowest e p → deliverOf c ≡ turn (withEntries c (taken e p)) (given e p)
   unfolding deliverOf deliveringOf

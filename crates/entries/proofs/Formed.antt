@@ -6,7 +6,7 @@ use Prim.Native.Nat.{ℕ, _+_, _-_, _*_, _/_, _%_, _<_}
 use native.Mathlib.Omega.{arith}
 use native.Mathlib.Nat.{mod-lt}
 use lib.Dec.{eqb, leb, lit<}
-use lib.ListN.{getD, set}
+use lib.ListN.{getD, set, getD-replicate}
 use lib.Seq.{set-getD}
 use borrow.Author.Tests.{eq-eqb, eqb-true}
 use Rattle.pins.specs.Pins.{allFrom, pins}
@@ -205,6 +205,11 @@ module _ (w v : ℕ) where
 pick-ok : (b : Bool) (w x level held h : ℕ) → pinOk w level held ≡ true → (b ≡ true → pinOk x level h ≡ true) → pinOk (cond b x w) level (cond b h held) ≡ true
 pick-ok true w x level held h e f = f refl
 pick-ok false w x level held h e f = e
+
+-- every entry of a reset is an edge entry
+pub reset-level : (i : ℕ) → i < 24 → levelOf (lowAt resetEntries i) ≡ false
+unfolding levelOf
+reset-level i l = ap levelOf (getD-replicate {A = ℕ} 24 i 0x10000 0 l)
 
 pub reset-ok : entriesOk resetEntries ≡ true
 unfolding entriesOk allFrom pinOk wordOk levelOf

@@ -1,3 +1,4 @@
 mod Text
 mod Order
 mod Loop
+pub mod Numbers

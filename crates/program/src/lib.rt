@@ -2,12 +2,15 @@
 //
 // `name` is the program's own name, which begins each message: `NAME: the file: the reason`.
 mod arguments;
+mod decimal;
 mod input;
 mod output;
 mod transfer;
 
 pub use arguments::asks_help;
 pub use arguments::one_input;
+pub use decimal::Number;
+pub use decimal::number_at;
 pub use input::read_input;
 pub use output::print;
 pub use output::usage;

@@ -18,9 +18,15 @@
 //! # Ok::<(), nataqvoju::Refusal>(())
 //! ```
 //!
-//! What is proved: for every argument and every byte pattern of the board, the board after a call and its answer are those
-//! of the model's own call by value. A refused call leaves every byte as it was.
+//! A [`Mill`] is a board with its pause screen, 296 bytes: for a monitor that shows whether the machine is paused.
+//!
+//! What is proved: for every argument and every byte pattern of the board or the mill, what it is after a call and the answer
+//! are those of the model's own call by value. A refused call leaves every byte as it was.
 #![warn(missing_docs)]
+
+mod mill;
+
+pub use mill::{Mill, Screen, Word};
 
 use std::fmt;
 use std::mem::{align_of, size_of, transmute};
@@ -151,7 +157,7 @@ pub const COMPARATOR: u64 = 0x008;
 /// From a register of the timers' window to its high half, of width 4. The low half is at the register's own offset.
 pub const HIGH_HALF: u64 = 0x004;
 
-/// Why a call was refused. The board is as it was.
+/// Why a call was refused. The board or the mill is as it was.
 #[derive(Clone, Copy, Debug, PartialEq, Eq, Hash)]
 #[repr(u32)]
 pub enum Refusal {
@@ -163,12 +169,14 @@ pub enum Refusal {
     Pin = 3,
     /// Wire level above 1, or a 4-byte write with a value above 4,294,967,295.
     Value = 4,
-    /// The board is not well formed.
+    /// The board or the mill is not well formed.
     State = 5,
+    /// The pause pin that is told has a level entry: a mill's telling alone gives this.
+    NotEdge = 14,
 }
 
 impl Refusal {
-    /// The number of the refusal, 1 to 5.
+    /// The number of the refusal: 1 to 5, or 14.
     pub fn number(self) -> u32 {
         self as u32
     }
@@ -181,7 +189,8 @@ impl fmt::Display for Refusal {
             Refusal::Width => "width or alignment isn't allowed",
             Refusal::Pin => "pin above 23",
             Refusal::Value => "wire level above 1, or a 4-byte write with a value above 4,294,967,295",
-            Refusal::State => "the board is not well formed",
+            Refusal::State => "the board or the mill is not well formed",
+            Refusal::NotEdge => "the pause pin's entry is not an edge entry",
         })
     }
 }
@@ -219,9 +228,19 @@ impl Numbers {
             2 => Err(Refusal::Width),
             3 => Err(Refusal::Pin),
             4 => Err(Refusal::Value),
-            // 6 to 8 are a log's: no call on a board gives them.
+            14 => Err(Refusal::NotEdge),
+            // 6 to 8 are a log's, and 7 an unknown kind's: no call of a board or of a mill's methods gives them.
             _ => Err(Refusal::State),
         }
+    }
+
+    fn interrupt(self) -> Option<Interrupt> {
+        (self.delivered != 0).then_some(Interrupt {
+            pin: self.pin,
+            vector: self.vector,
+            destination: self.destination,
+            logical: self.logical == 1,
+        })
     }
 }
 
@@ -327,16 +346,8 @@ impl Board {
 
     /// A delivery step: the lowest eligible pin, if there is one.
     pub fn deliver(&mut self) -> Result<Option<Interrupt>, Refusal> {
-        let numbers = unsafe { nataqvoju_deliver(self) }.done()?;
-        if numbers.delivered == 0 {
-            return Ok(None);
-        }
-        Ok(Some(Interrupt {
-            pin: numbers.pin,
-            vector: numbers.vector,
-            destination: numbers.destination,
-            logical: numbers.logical == 1,
-        }))
+        let numbers = unsafe { nataqvoju_deliver(self) };
+        Ok(numbers.done()?.interrupt())
     }
 
     /// The trigger mode of a pin, which the message of its delivery has to name: whether it is level. This is bit 15 of the
@@ -441,3 +452,5 @@ layout!(Controller, 176, 4, id at 0, index at 4, entries at 8);
 layout!(Board, 288, 8, timers at 0, controller at 88, outside at 264);
 layout!(Numbers, 32, 8, value at 0, number at 8, delivered at 12, fired at 16, pin at 28, vector at 29, destination at 30,
     logical at 31);
+layout!(Screen, 8, 2, told at 0, pin at 2, word at 4, vector at 6);
+layout!(Mill, 296, 8, board at 0, screen at 288);

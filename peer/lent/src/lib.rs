@@ -1,10 +1,13 @@
-//! The library's lent entry, called safely.
+//! The library's lent entries, called safely.
 
+pub mod check;
+
+use peer::abi::mill::{Mill, MillCall};
 use peer::abi::{Board, Call, Reply};
 
 /// The C interface.
 mod entry {
-    use super::{Board, Reply};
+    use super::{Board, Mill, Reply};
 
     extern "C" {
         pub fn nataqvoju_reset(board: *mut Board) -> Reply;
@@ -20,10 +23,11 @@ mod entry {
         pub fn nataqvoju_end(board: *mut Board, vector: u8) -> Reply;
         pub fn nataqvoju_advance(board: *mut Board, ticks: u32) -> Reply;
         pub fn nataqvoju_deliver(board: *mut Board) -> Reply;
+        pub fn nataqvoju_mill(mill: *mut Mill, kind: u64, a: u64, b: u64, c: u64, d: u64) -> Reply;
     }
 }
 
-// SAFETY, for every call below: the board is lent for the length of the call, and the entry
+// SAFETY, for every call below: the board or the mill is lent for the length of the call, and the entry
 // answers any bytes in it.
 
 /// Resets the board.
@@ -72,4 +76,9 @@ pub fn call(board: &mut Board, call: Call) -> Reply {
         Call::Advance { ticks } => advance(board, ticks),
         Call::Deliver => deliver(board),
     }
+}
+
+/// Makes any call of the mill.
+pub fn mill(mill: &mut Mill, MillCall { kind, numbers: [a, b, c, d] }: MillCall) -> Reply {
+    unsafe { entry::nataqvoju_mill(mill, kind, a, b, c, d) }
 }

@@ -12,7 +12,7 @@ use crate::timers::TIMERS;
 pub struct Reply {
     /// A done read's value, else 0.
     pub value: u64,
-    /// The paper's number, 0 to 5.
+    /// The paper's number: 0 to 5; of a mill also 7 and 14.
     pub number: u32,
     /// 1 exactly when a pin was delivered.
     pub delivered: u32,
@@ -123,6 +123,6 @@ impl Reply {
     }
 }
 
-fn refused(refusal: Refusal) -> Reply {
+pub(crate) fn refused(refusal: Refusal) -> Reply {
     Reply { number: u32::from(refusal.number()), ..Reply::default() }
 }

@@ -1,14 +1,17 @@
-//! The lent entry's memory layout, and what each of its calls has to answer.
+//! The lent entries' memory layout, and what each of their calls has to answer: the board's here,
+//! the mill's in [`mill`].
 //!
 //! No struct has padding, so equal fields are equal bytes. Fields are as wide as the C interface
 //! has them; what doesn't fit the model's types isn't well formed.
 
 mod call;
+pub mod mill;
 mod model;
 
 use crate::pin::PINS;
 use crate::timers::TIMERS;
 
+pub(crate) use call::refused;
 pub use call::{Call, Reply};
 
 /// The redirection entries by columns, with pin levels and held edges.

@@ -2,43 +2,23 @@
 //! it is meant to reach shows up.
 
 mod halves;
+mod list;
 mod registers;
+mod screen;
+mod screen_watch;
 mod ticks;
 mod watch;
 
 use crate::board::Refusal;
-use crate::generate::Profile;
 use crate::log::{records_of, LONGEST};
+use list::events;
 use watch::Watcher;
 
-/// Declares the events: name, what it is, and the profiles that have to reach it (by letter:
-/// v valid, a adversarial, t timers, c controller, x torn).
-macro_rules! events {
-    ($($name:ident: $text:literal, $wanted:literal;)*) => {
-        /// An interesting event.
-        #[derive(Clone, Copy, PartialEq, Eq, Debug)]
-        pub enum Event {
-            $(#[doc = $text] $name,)*
-        }
-
-        impl Event {
-            /// All events, in the order of their numbers.
-            pub const ALL: &'static [Event] = &[$(Event::$name,)*];
-
-            /// What it is, in words.
-            pub fn text(self) -> &'static str {
-                match self { $(Event::$name => $text,)* }
-            }
-
-            /// The letters of the profiles that have to reach it.
-            fn wanted(self) -> &'static str {
-                match self { $(Event::$name => $wanted,)* }
-            }
-        }
-    };
-}
+pub use list::{Counts, Listed};
+pub use screen::ScreenEvent;
 
 events! {
+    Event;
     WireEdge: "edge by an outside wire", "vatc";
     WireEdgeActiveLow: "edge by a falling outside wire, active low", "vatc";
     WireMasked: "edge ignored on a masked pin", "vtc";
@@ -196,50 +176,7 @@ events! {
     TooLong: "too long", "x";
 }
 
-impl Profile {
-    fn letter(self) -> char {
-        match self {
-            Profile::Valid => 'v',
-            Profile::Adversarial => 'a',
-            Profile::Timers => 't',
-            Profile::Controller => 'c',
-            Profile::Torn => 'x',
-        }
-    }
-}
-
-impl Event {
-    /// The profile is meant to reach it.
-    pub fn is_wanted_in(self, profile: Profile) -> bool {
-        self.wanted().contains(profile.letter())
-    }
-}
-
-/// How often each event happened.
-#[derive(Clone)]
-pub struct Counts(Vec<u64>);
-
-impl Counts {
-    /// Nothing happened yet.
-    pub fn new() -> Counts {
-        Counts(vec![0; Event::ALL.len()])
-    }
-
-    /// How often this one happened.
-    pub fn of(&self, event: Event) -> u64 {
-        self.0[event as usize]
-    }
-
-    fn note(&mut self, event: Event) {
-        self.0[event as usize] += 1;
-    }
-
-    fn note_if(&mut self, condition: bool, event: Event) {
-        if condition {
-            self.note(event);
-        }
-    }
-
+impl Counts<Event> {
     /// Plays a log and counts what happens in it; answers the number of its records.
     pub fn watch(&mut self, log: &[u8]) -> usize {
         if log.len() > LONGEST {
@@ -268,11 +205,5 @@ impl Counts {
                 self.note(if left < 3 { Event::StrayByte } else { Event::ShortBody });
             }
         }
-    }
-}
-
-impl Default for Counts {
-    fn default() -> Counts {
-        Counts::new()
     }
 }

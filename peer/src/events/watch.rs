@@ -11,7 +11,7 @@ use crate::timers::{configuration_of, TIMERS};
 
 /// Follows one log.
 pub(super) struct Watcher<'counts> {
-    pub(super) counts: &'counts mut Counts,
+    pub(super) counts: &'counts mut Counts<Event>,
     pub(super) board: Board,
     /// The timer fired, and its comparator wasn't written since.
     pub(super) fired: [bool; TIMERS],
@@ -22,7 +22,7 @@ pub(super) struct Watcher<'counts> {
 }
 
 impl<'counts> Watcher<'counts> {
-    pub(super) fn new(counts: &'counts mut Counts) -> Self {
+    pub(super) fn new(counts: &'counts mut Counts<Event>) -> Self {
         Watcher {
             counts,
             board: Board::RESET,

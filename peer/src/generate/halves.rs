@@ -60,7 +60,7 @@ impl Maker {
     /// the period shows. Then the counter goes back to where the other timers are due.
     pub(super) fn set_half_scene(&mut self) {
         let n = self.timer();
-        let count = self.board.timers.counter;
+        let count = self.mill.board.timers.counter;
         let (configuration, comparator) = (configuration_of(n), comparator_of(n));
         let width = sometimes(&mut self.random, 40, bits::NARROW);
         self.write_timers(ENABLE, 0);
@@ -77,7 +77,7 @@ impl Maker {
         if self.random.percent(60) {
             self.rewrite_half(n, half.other());
         }
-        let start = self.board.timers.timer[n].comparator.wrapping_sub(1);
+        let start = self.mill.board.timers.timer[n].comparator.wrapping_sub(1);
         self.write_part(COUNTER, Part::Whole, start);
         self.write_timers(ENABLE, 1);
         let ticks = 1 + self.random.below(3) as u32;

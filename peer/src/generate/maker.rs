@@ -1,10 +1,10 @@
-//! A log in the making: its records so far, the board that plays them, and the choices that
+//! A log in the making: its records so far, the mill that plays them, and the choices that
 //! depend on both.
 
 use super::choices::{self, any_pin, landmark, near, period};
-use crate::board::Board;
 use crate::controller::{DATA, INDEX};
 use crate::log::Record;
+use crate::mill::{Mill, MillCalls};
 use crate::part::Part;
 use crate::random::Random;
 use crate::timer::bits;
@@ -13,7 +13,8 @@ use crate::timers::TIMERS;
 /// Makes one log.
 pub(super) struct Maker {
     pub(super) random: Random,
-    pub(super) board: Board,
+    /// Its pause key is the first pin.
+    pub(super) mill: Mill,
     pub(super) log: Vec<u8>,
     pub(super) records: u64,
     pub(super) pins: Vec<u8>,
@@ -23,17 +24,19 @@ pub(super) struct Maker {
 impl Maker {
     pub(super) fn new(seed: u64) -> Maker {
         let mut random = Random::new(seed);
-        let pins = (0..1 + random.below(4))
+        let pins: Vec<u8> = (0..1 + random.below(4))
             .map(
                 |_| if random.percent(25) { random.choose(&[0, 23]) } else { any_pin(&mut random) },
             )
             .collect();
         let vectors = (0..3).map(|_| random.any() as u8).collect();
-        Maker { random, board: Board::RESET, log: Vec::new(), records: 0, pins, vectors }
+        let mut mill = Mill::RESET;
+        mill.tell(pins[0].into()).expect("every entry is an edge entry after a reset");
+        Maker { random, mill, log: Vec::new(), records: 0, pins, vectors }
     }
 
     pub(super) fn push(&mut self, record: Record) {
-        record.play(&mut self.board);
+        record.play(&mut self.mill);
         record.append_to(&mut self.log);
         self.records += 1;
     }
@@ -142,7 +145,7 @@ impl Maker {
 
     /// A new configuration for timer n, or the present one with a single thing changed.
     pub(super) fn reconfiguration(&mut self, n: usize) -> u64 {
-        let present = self.board.timers.timer[n].read_configuration();
+        let present = self.mill.board.timers.timer[n].read_configuration();
         match self.random.below(100) {
             0..45 => self.configuration(),
             45..53 => present ^ bits::INTERRUPT,
@@ -161,18 +164,18 @@ impl Maker {
 
     /// A number for the comparator register of timer n: the period, if that is what it sets.
     pub(super) fn due_or_period(&mut self, n: usize) -> u64 {
-        let timer = self.board.timers.timer[n];
+        let timer = self.mill.board.timers.timer[n];
         if timer.periodic && !timer.set_comparator {
             period(&mut self.random)
         } else {
-            near(&mut self.random, self.board.timers.counter)
+            near(&mut self.random, self.mill.board.timers.counter)
         }
     }
 
     /// A number for the counter, from which some timer is due soon.
     pub(super) fn count(&mut self) -> u64 {
         let n = self.timer();
-        let comparator = self.board.timers.timer[n].comparator;
+        let comparator = self.mill.board.timers.timer[n].comparator;
         match self.random.below(100) {
             0..60 => comparator.wrapping_sub(self.random.below(4)),
             60..70 => comparator.wrapping_add(self.random.below(3)),
@@ -182,7 +185,7 @@ impl Maker {
 
     pub(super) fn due_in(&mut self) -> u64 {
         let timer = self.timer();
-        let due = self.board.timers.timer[timer].due_in(self.board.timers.counter);
+        let due = self.mill.board.timers.timer[timer].due_in(self.mill.board.timers.counter);
         u64::try_from(due).unwrap_or(u64::MAX)
     }
 

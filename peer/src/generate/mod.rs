@@ -8,6 +8,7 @@ mod choices;
 mod halves;
 mod maker;
 mod moves;
+mod pause;
 mod scenes;
 mod states;
 mod torn;
@@ -29,14 +30,31 @@ pub enum Profile {
     Timers,
     /// Masking, polarity and trigger switches, remote IRR, storms of ends of interrupt.
     Controller,
+    /// The life of a pause key, at each of its stages what is easily taken for another one.
+    Pause,
     /// Cut, damaged and overlong logs.
     Torn,
 }
 
 impl Profile {
     /// All profiles.
-    pub const ALL: [Profile; 5] =
-        [Profile::Valid, Profile::Adversarial, Profile::Timers, Profile::Controller, Profile::Torn];
+    pub const ALL: [Profile; 6] = [
+        Profile::Valid,
+        Profile::Adversarial,
+        Profile::Timers,
+        Profile::Controller,
+        Profile::Pause,
+        Profile::Torn,
+    ];
+
+    /// The profiles whose logs have no bad record.
+    pub const SOUND: [Profile; 5] = [
+        Profile::Valid,
+        Profile::Adversarial,
+        Profile::Timers,
+        Profile::Controller,
+        Profile::Pause,
+    ];
 
     /// The name on the command line.
     pub fn name(self) -> &'static str {
@@ -45,6 +63,7 @@ impl Profile {
             Profile::Adversarial => "adversarial",
             Profile::Timers => "timers",
             Profile::Controller => "controller",
+            Profile::Pause => "pause",
             Profile::Torn => "torn",
         }
     }
@@ -55,8 +74,21 @@ impl Profile {
     }
 }
 
+/// A log, and the pin that is its pause key.
+pub struct Log {
+    /// Its bytes.
+    pub bytes: Vec<u8>,
+    /// A pin at which something happens.
+    pub key: u8,
+}
+
 /// The log with this number: the seed and the number decide it.
 pub fn log(profile: Profile, seed: u64, number: u64) -> Vec<u8> {
+    keyed_log(profile, seed, number).bytes
+}
+
+/// The same, with its pause key.
+pub fn keyed_log(profile: Profile, seed: u64, number: u64) -> Log {
     let mut random = Random::new(seed ^ number.wrapping_mul(0xD134_2543_DE82_EF95));
     if profile == Profile::Torn {
         torn::log(&mut random, number)
@@ -65,9 +97,11 @@ pub fn log(profile: Profile, seed: u64, number: u64) -> Vec<u8> {
     }
 }
 
-fn sound_log(profile: Profile, random: &mut Random) -> Vec<u8> {
+fn sound_log(profile: Profile, random: &mut Random) -> Log {
     let mut maker = Maker::new(random.any());
     let length = match random.below(100) {
+        // A pause that isn't resumed comes once in a log.
+        _ if profile == Profile::Pause => 10 + random.below(120),
         0..60 => 50 + random.below(350),
         60..95 => 300 + random.below(700),
         _ => u64::MAX,
@@ -78,7 +112,7 @@ fn sound_log(profile: Profile, random: &mut Random) -> Vec<u8> {
     while maker.records < length && maker.log.len() + LONGEST_MOVE < LONGEST {
         maker.move_by(profile);
     }
-    maker.log
+    Log { key: maker.pins[0], bytes: maker.log }
 }
 
 /// No move adds more bytes than this.

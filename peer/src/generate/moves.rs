@@ -39,6 +39,7 @@ impl Maker {
                 88..97 => self.look(),
                 _ => self.sweep_some(),
             },
+            Profile::Pause => self.pause_move(),
             Profile::Adversarial | Profile::Torn => match roll {
                 0..50 => self.bad_move(),
                 50..70 => self.controller_move(),
@@ -82,7 +83,7 @@ impl Maker {
 
     /// A new low word, or the present one with a single thing changed.
     pub(super) fn rewrite_low(&mut self, pin: u64) {
-        let present = self.board.controller.pins[pin as usize].low;
+        let present = self.mill.board.controller.pins[pin as usize].low;
         let word = match self.random.below(100) {
             0..35 => self.low_word(),
             35..50 => present ^ MASK,
@@ -102,7 +103,7 @@ impl Maker {
     }
 
     pub(super) fn toggle_wire(&mut self, pin: u8) {
-        let present = u8::from(self.board.outside[usize::from(pin)]);
+        let present = u8::from(self.mill.board.outside[usize::from(pin)]);
         let level = if self.random.percent(85) { 1 - present } else { present };
         self.push(Record::Wire { pin, level });
         if self.random.percent(40) {
@@ -113,6 +114,7 @@ impl Maker {
     /// An end of interrupt, mostly one that some level pin waits for.
     pub(super) fn end(&mut self) {
         let waiting: Vec<u8> = self
+            .mill
             .board
             .controller
             .pins
@@ -155,7 +157,7 @@ impl Maker {
             48..58 => self.rewrite_comparator(n),
             58..62 => self.calm(),
             62..70 => {
-                let on = self.board.timers.enabled;
+                let on = self.mill.board.timers.enabled;
                 let value = self.random.any() & !1 | u64::from(!on);
                 self.write_timers(ENABLE, value);
             }
@@ -177,7 +179,7 @@ impl Maker {
             87..93 => self.look_at_timers(),
             93..99 => self.half_move(n),
             _ => {
-                let pin = u64::from(self.board.timers.timer[n].route);
+                let pin = u64::from(self.mill.board.timers.timer[n].route);
                 self.rewrite_low(pin);
             }
         }
@@ -205,7 +207,7 @@ impl Maker {
     }
 
     pub(super) fn rewrite_comparator(&mut self, n: usize) {
-        let set = self.board.timers.timer[n].set_comparator;
+        let set = self.mill.board.timers.timer[n].set_comparator;
         let value = self.due_or_period(n);
         self.write_timers(comparator_of(n), value);
         if set && self.random.percent(60) {

@@ -12,6 +12,9 @@ use crate::timers::{comparator_of, configuration_of, COUNTER, ENABLE, STATUS, TI
 
 impl Maker {
     pub(super) fn set_scene(&mut self, profile: Profile) {
+        if profile == Profile::Pause {
+            return self.set_pause_scene();
+        }
         for pin in self.pins.clone() {
             let word = self.low_word();
             self.write_index(0x10 + 2 * u64::from(pin), u64::from(word));
@@ -57,8 +60,12 @@ impl Maker {
 
     /// A level timer has fired on an edge pin; then writes that may move its wire, one by one.
     pub(super) fn set_level_scene(&mut self) {
-        let n = self.timer();
         let pin = self.pin();
+        self.set_level_scene_at(pin);
+    }
+
+    pub(super) fn set_level_scene_at(&mut self, pin: u8) {
+        let n = self.timer();
         self.write_timers(ENABLE, 0);
         self.calm();
         let word = low_word(&mut self.random, self.vectors[0]) & !(MASK | LEVEL | 0x700);
@@ -66,7 +73,7 @@ impl Maker {
         let interrupt = if self.random.percent(50) { bits::INTERRUPT } else { 0 };
         let level = bits::LEVEL_TYPE | u64::from(pin) << bits::ROUTE_SHIFT;
         self.write_timers(configuration_of(n), level | interrupt);
-        let due = self.board.timers.counter.wrapping_add(1 + self.random.below(3));
+        let due = self.mill.board.timers.counter.wrapping_add(1 + self.random.below(3));
         self.write_timers(comparator_of(n), due);
         self.write_timers(ENABLE, 1);
         self.push(Record::Advance { ticks: 4 });
@@ -78,7 +85,7 @@ impl Maker {
 
     /// A write that may move the wire of timer n.
     fn move_wire(&mut self, n: usize) {
-        let present = self.board.timers.timer[n].read_configuration();
+        let present = self.mill.board.timers.timer[n].read_configuration();
         let route = bits::ROUTE_MASK << bits::ROUTE_SHIFT;
         match self.random.below(9) {
             0..3 => self.write_timers(configuration_of(n), present ^ bits::INTERRUPT),
@@ -99,7 +106,7 @@ impl Maker {
             }
             7 => self.write_idle_half(n),
             _ => {
-                let on = u64::from(!self.board.timers.enabled);
+                let on = u64::from(!self.mill.board.timers.enabled);
                 self.write_timers(ENABLE, on);
             }
         }
@@ -135,7 +142,7 @@ impl Maker {
     pub(super) fn calm(&mut self) {
         self.write_timers(STATUS, 7);
         for pin in self.pins.clone() {
-            if self.board.outside[usize::from(pin)] {
+            if self.mill.board.outside[usize::from(pin)] {
                 self.push(Record::Wire { pin, level: 0 });
             }
         }

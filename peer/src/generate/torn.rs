@@ -1,29 +1,36 @@
 //! Torn logs: cut, damaged, overlong or never a log at all.
 
-use super::{sound_log, Profile};
+use super::{sound_log, Log, Profile};
 use crate::log::{Reader, Record, LONGEST, MARK};
 use crate::random::Random;
 
-/// The first logs are those that chance would make too rarely, whatever the seed.
-const FIXED: u64 = 20;
+/// The first logs are those that chance would make too rarely, whatever the seed: one of each length
+/// if the profiles come in turn.
+const FIXED: [usize; 5] = [0, LONGEST, LONGEST + 1, LONGEST + 1, LONGEST - 1];
 
-pub(super) fn log(random: &mut Random, number: u64) -> Vec<u8> {
-    if number < FIXED {
-        return deliveries([0, LONGEST, LONGEST + 1, LONGEST - 1][number as usize % 4]);
+pub(super) fn log(random: &mut Random, number: u64) -> Log {
+    let turn = number as usize / Profile::ALL.len();
+    if let Some(&length) = FIXED.get(turn) {
+        return no_key(deliveries(length));
     }
     match random.below(100) {
-        0 => Vec::new(),
-        1..5 => deliveries(LONGEST - 3 + random.below(7) as usize),
-        5..9 => random_bytes(random),
+        0 => no_key(Vec::new()),
+        1..5 => no_key(deliveries(LONGEST - 3 + random.below(7) as usize)),
+        5..9 => no_key(random_bytes(random)),
         _ => {
-            let profile = random.choose(&Profile::ALL[..4]);
+            let profile = random.choose(&Profile::SOUND);
             let mut log = sound_log(profile, random);
             for _ in 0..1 + random.below(10) / 8 {
-                damage(&mut log, random);
+                damage(&mut log.bytes, random);
             }
             log
         }
     }
+}
+
+/// Nothing happens in it, at any pin.
+fn no_key(bytes: Vec<u8>) -> Log {
+    Log { bytes, key: 0 }
 }
 
 /// So many bytes of delivery steps, the last one cut if need be.

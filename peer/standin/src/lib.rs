@@ -2,11 +2,22 @@
 //! interface. With it `lent-check` and the benchmarks can be tried without the library, and
 //! have to pass.
 
+use peer::abi::mill::{Mill, MillCall};
 use peer::abi::{Board, Call, Reply};
 
 fn answer(board: *mut Board, call: Call) -> Reply {
     // SAFETY: the caller lends a board for the length of the call, as the interface asks.
     call.answer(unsafe { &mut *board })
+}
+
+fn answer_copy(board: *const Board, call: Call) -> Reply {
+    // SAFETY: as above; the board itself stays as it is.
+    call.answer(&mut unsafe { *board })
+}
+
+fn answer_mill(mill: *mut Mill, call: MillCall) -> Reply {
+    // SAFETY: as above, for a mill.
+    call.answer(unsafe { &mut *mill })
 }
 
 /// Resets the board.
@@ -23,9 +34,7 @@ pub extern "C" fn nataqvoju_read(
     width: u64,
     offset: u64,
 ) -> Reply {
-    // SAFETY: the caller lends a board for the length of the call, as the interface asks.
-    let mut copy = unsafe { *board };
-    Call::Read { window, width, offset }.answer(&mut copy)
+    answer_copy(board, Call::Read { window, width, offset })
 }
 
 /// Writes a register.
@@ -62,4 +71,17 @@ pub extern "C" fn nataqvoju_advance(board: *mut Board, ticks: u32) -> Reply {
 #[no_mangle]
 pub extern "C" fn nataqvoju_deliver(board: *mut Board) -> Reply {
     answer(board, Call::Deliver)
+}
+
+/// Any call of the mill.
+#[no_mangle]
+pub extern "C" fn nataqvoju_mill(
+    mill: *mut Mill,
+    kind: u64,
+    a: u64,
+    b: u64,
+    c: u64,
+    d: u64,
+) -> Reply {
+    answer_mill(mill, MillCall { kind, numbers: [a, b, c, d] })
 }

@@ -1,6 +1,9 @@
 //! Calls by short names, each of which has to be done.
 #![allow(dead_code, missing_docs)] // each test file uses some of them
 
+pub mod mill;
+pub mod records;
+
 use peer::board::{Board, Calls, CONTROLLER, TIMER_BLOCK};
 use peer::controller::{DATA, INDEX};
 use peer::timer::bits;

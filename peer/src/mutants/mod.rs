@@ -1,16 +1,20 @@
 //! Shows that the comparison catches mistakes: each wrong model against the right one, on the
 //! same random logs, or on the same random sequences of calls if the mistake is one in a reset.
-//! A mistake that isn't found is a hole in the generator.
+//! A mistake that isn't found is a hole in the generator. Mistakes of a pause screen are in
+//! [`screen`].
+
+mod screen;
 
 use crate::abi::Reply;
 use crate::generate::{self, Profile};
 use crate::log::{records_of, replay_from_reset};
 use crate::sequence::{Maker, Sequence};
 use crate::shrink::shrink;
+use crate::wrong::screen::ScreenMistake;
 use crate::wrong::{self, Mistake};
 
 /// Each mistake has to be found within so many logs.
-pub const LOGS: u64 = 500;
+pub const LOGS: u64 = 600;
 /// Each mistake in a reset has to be found within so many rounds of sequences.
 const ROUNDS: usize = 200;
 /// The effort to shrink a difference.
@@ -30,9 +34,15 @@ pub fn run(seed: u64, logs: u64) -> bool {
         }
     };
     let found = Mistake::ALL.iter().filter(|&&mistake| is_found(mistake)).count();
-    let missed = Mistake::ALL.len() - found;
-    println!("{found} passed, {missed} failed");
-    missed == 0
+    let screen = screen::Search::new(seed, logs).run();
+    let (found, all) = (found + screen, Mistake::ALL.len() + ScreenMistake::ALL.len());
+    println!("{found} passed, {} failed", all - found);
+    found == all
+}
+
+/// The profiles come in turn.
+fn profile_of(number: u64) -> Profile {
+    Profile::ALL[(number % Profile::ALL.len() as u64) as usize]
 }
 
 /// A log with its right output.
@@ -43,8 +53,7 @@ struct Case {
 
 impl Case {
     fn new(seed: u64, number: u64) -> Case {
-        let profile = Profile::ALL[(number % Profile::ALL.len() as u64) as usize];
-        let log = generate::log(profile, seed, number);
+        let log = generate::log(profile_of(number), seed, number);
         Case { right: replay_from_reset(&log), log }
     }
 }

@@ -1,0 +1,15 @@
+pub mod Moves
+pub mod Served
+pub mod Fits
+pub mod Keeps
+pub mod FromReset
+pub mod Steps
+pub mod Sequences
+pub mod ByWord
+pub mod Tales
+pub mod Wakes
+pub mod Pinned
+pub mod Since
+pub mod Paused
+pub mod Same
+pub mod Demands

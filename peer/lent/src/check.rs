@@ -1,0 +1,134 @@
+//! What the two checks have in common.
+
+use std::fmt::Debug;
+use std::process::ExitCode;
+
+use peer::abi::Reply;
+
+/// How many calls are compared, unless told otherwise.
+const CALLS: u64 = 2_000_000;
+/// So many differences are shown.
+const SHOWN: u64 = 3;
+
+/// What is lent, with guards on both sides that no call may touch.
+#[repr(C)]
+#[derive(Clone, Copy, PartialEq, Eq)]
+struct Guarded<Lent> {
+    before: [u64; 8],
+    lent: Lent,
+    after: [u64; 8],
+}
+
+const GUARD: [u64; 8] = [0xA5A5_5A5A_C3C3_3C3C; 8];
+
+impl<Lent> Guarded<Lent> {
+    fn new(lent: Lent) -> Self {
+        Guarded { before: GUARD, lent, after: GUARD }
+    }
+}
+
+/// A call, and what has to come of it.
+pub struct Wanted<Lent, Call> {
+    /// The memory before it.
+    pub before: Lent,
+    /// The call.
+    pub call: Call,
+    /// The memory after it.
+    pub after: Lent,
+    /// What it answers.
+    pub reply: Reply,
+}
+
+/// What has been compared.
+#[derive(Default)]
+pub struct Tally {
+    passed: u64,
+    failed: u64,
+}
+
+impl Tally {
+    /// There is more to compare.
+    pub fn goes_on(&self, calls: u64) -> bool {
+        self.passed + self.failed < calls && self.failed < SHOWN
+    }
+
+    /// Makes one call and compares the reply, the memory and the guards.
+    pub fn compare<Lent: Copy + Eq + Debug, Call: Copy + Debug>(
+        &mut self,
+        wanted: &Wanted<Lent, Call>,
+        make: impl FnOnce(&mut Lent, Call) -> Reply,
+    ) {
+        let mut given = Guarded::new(wanted.before);
+        let reply = make(&mut given.lent, wanted.call);
+        if reply == wanted.reply && given == Guarded::new(wanted.after) {
+            self.passed += 1;
+            return;
+        }
+        self.failed += 1;
+        if self.failed <= SHOWN {
+            show(wanted, &given, reply);
+        }
+    }
+
+    /// Prints the counts and `N passed, M failed`; what never came is a failure.
+    pub fn report(&self, rows: &[(String, u64)]) -> ExitCode {
+        for (text, count) in rows {
+            println!("{text:<58}{count:>10}");
+        }
+        let unseen = rows.iter().filter(|(_, count)| *count == 0);
+        let failed = self.failed + unseen.map(|(text, _)| println!("never: {text}")).count() as u64;
+        println!("{} passed, {failed} failed", self.passed);
+        if failed == 0 {
+            ExitCode::SUCCESS
+        } else {
+            ExitCode::FAILURE
+        }
+    }
+}
+
+fn show<Lent: Copy + Eq + Debug, Call: Debug>(
+    wanted: &Wanted<Lent, Call>,
+    given: &Guarded<Lent>,
+    reply: Reply,
+) {
+    println!("{:?} on {:?}", wanted.call, wanted.before);
+    println!("  wanted {:?}", wanted.reply);
+    println!("  given  {reply:?}");
+    if wanted.after != given.lent {
+        println!("  wanted {:?}", wanted.after);
+        println!("  given  {:?}", given.lent);
+    }
+    if (given.before, given.after) != (GUARD, GUARD) {
+        println!("  the bytes around it were changed");
+    }
+}
+
+/// Runs a check with the seed and the number of calls that the command line says.
+pub fn run(name: &str, help: &str, check: impl FnOnce(u64, u64) -> ExitCode) -> ExitCode {
+    let words: Vec<String> = std::env::args().skip(1).collect();
+    if words.iter().any(|word| word == "--help" || word == "-h") {
+        print!("{help}");
+        return ExitCode::SUCCESS;
+    }
+    match options(&words) {
+        Ok((seed, calls)) => check(seed, calls),
+        Err(message) => {
+            eprintln!("{name}: {message}; see --help");
+            ExitCode::from(2)
+        }
+    }
+}
+
+fn options(words: &[String]) -> Result<(u64, u64), String> {
+    let (mut seed, mut calls) = (peer::fuzz::FIXED_SEED, CALLS);
+    for pair in words.chunks(2) {
+        let [option, value] = pair else { return Err(format!("{} wants a value", pair[0])) };
+        let number = value.parse().map_err(|_| format!("{option} wants a number, not {value}"))?;
+        match option.as_str() {
+            "--seed" => seed = number,
+            "--calls" => calls = number,
+            _ => return Err(format!("unknown option {option}")),
+        }
+    }
+    Ok((seed, calls))
+}
