@@ -30,6 +30,9 @@
  * The board's calls are in libnataqvoju.a. A monitor that shows whether the machine is paused lends a NataqvojuMill
  * instead, a board with its pause screen, to the one function of libnataqvoju_mill.a (below, "the mill"). What is said
  * above of a board holds of a mill and its 296 bytes too, but that a read of a mill has to be the only call on it.
+ *
+ * A program that gets what can be got from a damaged log calls the one function of libnataqvoju_salvage.a, which needs
+ * no board (below, "salvage").
  */
 #ifndef NATAQVOJU_H
 #define NATAQVOJU_H
@@ -98,9 +101,9 @@ typedef struct {
     uint8_t logical;     /* bit 11 of the entry */
 } NataqvojuNumbers;
 
-/* NataqvojuNumbers.number. A board or a mill that is not well formed is tested for first. An access then tests for the
- * window, width and alignment, the offset, the value; a wire change for the pin, then the level; a telling for the pin,
- * then its entry. The board's calls give 0 to 5 only. */
+/* NataqvojuNumbers.number, and NataqvojuSalvaged.number. A board or a mill that is not well formed is tested for first.
+ * An access then tests for the window, width and alignment, the offset, the value; a wire change for the pin, then the
+ * level; a telling for the pin, then its entry. The board's calls give 0 to 5 only, a salvage 0 and 12. */
 enum {
     NATAQVOJU_DONE = 0,
     NATAQVOJU_NO_PLACE = 1,  /* the window, or the offset in it, doesn't exist */
@@ -109,6 +112,7 @@ enum {
     NATAQVOJU_BAD_VALUE = 4, /* wire level above 1, or a 4-byte write with a value above 4,294,967,295 */
     NATAQVOJU_BAD_STATE = 5, /* the lent memory is not a well-formed board, or mill */
     NATAQVOJU_NO_KIND = 7,   /* the mill has no call of this kind */
+    NATAQVOJU_NO_ROOM = 12,  /* the records or the list of a salvage don't fit */
     NATAQVOJU_NOT_EDGE = 14  /* the pause pin that is told has a level entry */
 };
 
@@ -303,6 +307,33 @@ static inline NataqvojuNumbers nataqvoju_mill_resume(NataqvojuMill *mill) {
     return nataqvoju_mill(mill, NATAQVOJU_MILL_RESUME, 0, 0, 0, 0);
 }
 
+/* ---- salvage, of libnataqvoju_salvage.a: what can be got from a damaged log ---- */
+
+/* What comes back: 32 bytes. */
+typedef struct {
+    uint64_t number;    /* 0 done; 12 the records or the list don't fit, and the other three are 0 */
+    uint64_t records;   /* how many records were kept */
+    uint64_t bytes;     /* how many bytes they have */
+    uint64_t stretches; /* how many stretches were skipped: the list has two numbers for each */
+} NataqvojuSalvaged;
+
+/* From the left: where a whole record stands (its mark 7E B5, a kind from 1 to 6, its full body) it is kept, and the
+ * next place is the one after it; where none stands, one byte is skipped. What a record's call would be answered does
+ * not matter. Bytes inside damage may happen to look like a record, and are then kept too.
+ *   - The kept records are copied to the start of `kept`, one after the other.
+ *   - Each skipped stretch, as long as it runs, goes into `list` from its start: the offset in `log`, then the length.
+ *   - What lies behind them in a longer buffer stays as it came.
+ *   - Refused with 12, exactly when `kept` has fewer bytes than the records or `list` fewer numbers than two for each
+ *     stretch: then both buffers are as they came.
+ * Lengths count elements: bytes of `log` and `kept`, numbers of `list`. The log may have any length, and is only read.
+ * The records never need more than `log_length` bytes, the list never more than 2 * ((log_length + 3) / 4) numbers; a
+ * buffer for what is really needed will do.
+ * What is the caller's to see to: no pointer is null, not even where its length is 0; `list` is aligned to 8; each
+ * points to as many elements as its length says; the two buffers overlap neither each other nor the log; and during the
+ * call nothing else writes the three, or reads the buffers. */
+NataqvojuSalvaged nataqvoju_salvage(const uint8_t *log, size_t log_length, uint8_t *kept, size_t kept_length,
+                                    uint64_t *list, size_t list_length);
+
 /* ---- the layout, checked where this header is compiled ---- */
 
 #if defined(__cplusplus)
@@ -373,6 +404,14 @@ NATAQVOJU_AT(NataqvojuMill, board, 0);
 NATAQVOJU_AT(NataqvojuMill, screen, 288);
 NATAQVOJU_CHECK(sizeof(NataqvojuMill) == 296);
 NATAQVOJU_ALIGNED(NataqvojuMill, 8);
+
+NATAQVOJU_AT(NataqvojuSalvaged, number, 0);
+NATAQVOJU_AT(NataqvojuSalvaged, records, 8);
+NATAQVOJU_AT(NataqvojuSalvaged, bytes, 16);
+NATAQVOJU_AT(NataqvojuSalvaged, stretches, 24);
+NATAQVOJU_CHECK(sizeof(NataqvojuSalvaged) == 32);
+NATAQVOJU_ALIGNED(NataqvojuSalvaged, 8);
+NATAQVOJU_CHECK(sizeof(size_t) == 8);
 
 #undef NATAQVOJU_AT
 #undef NATAQVOJU_ALIGNED

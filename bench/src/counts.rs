@@ -3,7 +3,6 @@
 use std::process::Command;
 
 use crate::rows::{self, Taker};
-use crate::TIMES;
 
 /// Counts every row on both sides and prints a table.
 pub fn print() -> Result<(), String> {
@@ -24,7 +23,7 @@ pub fn print() -> Result<(), String> {
 struct Names(Vec<&'static str>);
 
 impl Taker for Names {
-    fn take<Lent: Copy>(
+    fn take<Lent: Clone>(
         &mut self,
         name: &'static str,
         _: &Lent,
@@ -53,7 +52,7 @@ fn count(side: &str, name: &str) -> Result<u64, String> {
         .map_err(|error| format!("can't run valgrind: {error}"))?;
     let report = String::from_utf8_lossy(&output.stderr);
     collected(&report)
-        .map(|all| all / u64::from(TIMES))
+        .map(|all| all / u64::from(rows::times(name)))
         .ok_or_else(|| format!("valgrind counted nothing for {symbol}:\n{report}"))
 }
 

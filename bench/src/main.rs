@@ -17,7 +17,7 @@ use peer::board;
 use peer::generate::{self, random_board, Profile};
 use peer::log::{records_of, replay, Record, LONGEST};
 use peer::random::Random;
-use peer::sequence::mill;
+use peer::sequence::{mill, salvage};
 use rows::Taker;
 use table::{Advances, Table};
 
@@ -30,20 +30,18 @@ bench limits
 bench counts
     Counts the instructions of the same calls with valgrind's callgrind: one table.
 bench once SIDE CALL
-    Makes one call of the table 1,000 times, for a profiler. SIDE is library or plain; CALL is
-    the row's name.
+    Makes one call of the table 1,000 times, a salvage 10 times, for a profiler. SIDE is library
+    or plain; CALL is the row's name.
 bench replay FILE
     Replays a log with the plain calls; the table times the library's program beside it.
 
-NATAQVOJU_LIB_DIR, when this is built, names the folder that has libnataqvoju.a and
-libnataqvoju_mill.a;
+NATAQVOJU_LIB_DIR, when this is built, names the folder that has libnataqvoju.a,
+libnataqvoju_mill.a and libnataqvoju_salvage.a;
 NATAQVOJU_REPLAY names the program that replays a log, and NATAQVOJU_PEER the second program
 (without it, the one that is built beside this package).
 Exit status: 0 all limits hold, 1 some don't, 2 something is missing.
 ";
 
-/// How often `once` makes its call.
-const TIMES: u32 = 1_000;
 /// How often `limits` times the advances, one after the other; the best counts.
 const SWEEPS: u32 = 10;
 
@@ -121,6 +119,23 @@ fn check_plain() -> Result<(), String> {
             return Err(format!("the library answers {call:?} wrongly; run mill-check"));
         }
     }
+    check_salvages()
+}
+
+fn check_salvages() -> Result<(), String> {
+    let rows = rows::salvages().map(|(_, lending)| lending);
+    for lending in salvage::Maker::new(7).round().into_iter().chain(rows) {
+        let right = lending.right();
+        if lending.ask(plain::salvage) != right {
+            return Err("plain Rust salvages wrongly".to_string());
+        }
+        let library = |log: &[u8], kept: &mut [u8], list: &mut [u64]| {
+            lent::salvage(&mut log.to_vec(), kept, list)
+        };
+        if lending.ask(library) != right {
+            return Err("the library salvages wrongly; run salvage-check".to_string());
+        }
+    }
     Ok(())
 }
 
@@ -142,7 +157,7 @@ struct Once<'name> {
 }
 
 impl Taker for Once<'_> {
-    fn take<Lent: Copy>(
+    fn take<Lent: Clone>(
         &mut self,
         name: &'static str,
         start: &Lent,
@@ -154,8 +169,8 @@ impl Taker for Once<'_> {
             return;
         }
         self.found = true;
-        let mut lent = *start;
-        for _ in 0..TIMES {
+        let mut lent = start.clone();
+        for _ in 0..rows::times(name) {
             again(&mut lent);
             if self.library {
                 library(&mut lent);

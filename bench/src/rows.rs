@@ -5,6 +5,9 @@ use std::hint::black_box;
 use peer::abi::mill::{kind, Mill, MillCall, Screen};
 use peer::abi::{Board, Call};
 use peer::board;
+use peer::generate::Damage;
+use peer::random::Random;
+use peer::sequence::salvage::{Lending, Room};
 use peer::timer::bits;
 use peer::timers::{comparator_of, configuration_of, ENABLE, TIMERS};
 
@@ -20,10 +23,28 @@ pub const ADVANCE_BUSY: &str = "advance by 4,294,967,295, three timers of period
 /// What the names of the mill's rows start with.
 pub const MILL: &str = "mill, ";
 
+/// What the names of the salvage's rows start with.
+pub const SALVAGE: &str = "salvage, ";
+/// The salvage of a log that lacks nothing.
+pub const SALVAGE_SOUND: &str = "salvage, 256 KiB, sound";
+/// The salvage of what was never a log.
+pub const SALVAGE_DAMAGE: &str = "salvage, 256 KiB, all damage";
+/// The salvage of a log with a bad byte behind each record.
+const SALVAGE_TORN: &str = "salvage, 256 KiB, torn";
+
+/// How often a row's call is made for a profiler.
+pub fn times(name: &str) -> u32 {
+    if name.starts_with(SALVAGE) {
+        10
+    } else {
+        1_000
+    }
+}
+
 /// Takes the rows one by one: to time them, or to make one of them over and over.
 pub trait Taker {
-    /// A row: a board or a mill, what puts back what the call uses up, and the call on both sides.
-    fn take<Lent: Copy>(
+    /// A row: what is lent, what puts back what the call uses up, and the call on both sides.
+    fn take<Lent: Clone>(
         &mut self,
         name: &'static str,
         start: &Lent,
@@ -69,6 +90,7 @@ macro_rules! mill_row {
 pub fn each(taker: &mut impl Taker) {
     of_the_board(taker);
     of_the_mill(taker);
+    of_the_salvage(taker);
 }
 
 fn of_the_board(taker: &mut impl Taker) {
@@ -137,6 +159,62 @@ fn of_the_mill(taker: &mut impl Taker) {
         mill.screen.vector = VECTOR.into();
     };
     mill_row!(taker, "mill, resume", pause, kind::RESUME, [0; 4]);
+}
+
+fn of_the_salvage(taker: &mut impl Taker) {
+    for (name, lending) in salvages() {
+        taker.take(
+            name,
+            &lending,
+            |_| {},
+            |Lending { log, kept, list, .. }| {
+                black_box(lent::salvage(black_box(log), kept, list));
+            },
+            |Lending { log, kept, list, .. }| {
+                black_box(plain::salvage(black_box(log), kept, list));
+            },
+        );
+    }
+}
+
+/// What the rows of the salvage lend: logs, with room for the most that each can need.
+pub fn salvages() -> [(&'static str, Lending); 3] {
+    let lending = |damage, log: Vec<u8>| {
+        let (kept, list) = (vec![0; log.len()], vec![0; 2 * log.len().div_ceil(4)]);
+        Lending { damage, room: Room::ForAll, log, kept, list }
+    };
+    [
+        (SALVAGE_SOUND, lending(Damage::Sound, records(&[]))),
+        (SALVAGE_DAMAGE, lending(Damage::Noise, noise())),
+        (SALVAGE_TORN, lending(Damage::Inserted, records(&[0]))),
+    ]
+}
+
+/// How many bytes are salvaged, at most.
+const SALVAGED: usize = 256 * 1024;
+
+/// As many records of random kinds as there is room for, each with the same bytes behind it. What
+/// their calls would be answered doesn't matter, so their bodies are any bytes.
+fn records(behind: &[u8]) -> Vec<u8> {
+    let (mut random, mut log) = (Random::new(7), Vec::new());
+    loop {
+        let (kind, body) = random.choose(&[(1, 4), (2, 12), (3, 2), (4, 1), (5, 4), (6, 0)]);
+        if log.len() + 3 + body + behind.len() > SALVAGED {
+            return log;
+        }
+        log.extend([0x7E, 0xB5, kind]);
+        log.extend((0..body).map(|_| random.any() as u8));
+        log.extend(behind);
+    }
+}
+
+/// Random bytes, but for the second one of a mark.
+fn noise() -> Vec<u8> {
+    let mut random = Random::new(7);
+    (0..SALVAGED)
+        .map(|_| random.any() as u8)
+        .map(|byte| if byte == 0xB5 { 0 } else { byte })
+        .collect()
 }
 
 /// The scene, and a screen that was told its key.

@@ -1,6 +1,7 @@
 //! The table, and the limits that are read off it.
 
-use crate::rows::{Taker, ADVANCE_BUSY, ADVANCE_IDLE, ADVANCE_ONE, MILL};
+use crate::rows::{Taker, ADVANCE_BUSY, ADVANCE_IDLE, ADVANCE_ONE};
+use crate::rows::{MILL, SALVAGE, SALVAGE_DAMAGE, SALVAGE_SOUND};
 use crate::time::{self, Pair};
 
 /// The rows so far, printed as they come.
@@ -9,7 +10,7 @@ pub struct Table {
 }
 
 impl Taker for Table {
-    fn take<Lent: Copy>(
+    fn take<Lent: Clone>(
         &mut self,
         name: &'static str,
         start: &Lent,
@@ -49,11 +50,14 @@ impl Table {
     pub fn check_limits(&self) -> bool {
         println!();
         let [idle, busy] = advance_limits(|name| self.library(name));
-        let (name, ratio) = self.slowest(|name| !name.starts_with(MILL));
+        let of_the_board = |name: &str| !name.starts_with(MILL) && !name.starts_with(SALVAGE);
+        let (name, ratio) = self.slowest(of_the_board);
         let plain = limit(&format!("call slowest against plain Rust ({name})"), ratio, 2.0);
+        let (name, ratio) = self.slowest(|name| [SALVAGE_SOUND, SALVAGE_DAMAGE].contains(&name));
+        let salvage = limit(&format!("slower salvage against plain Rust ({name})"), ratio, 2.0);
         let (name, ratio) = self.slowest(|name| name.starts_with(MILL));
         println!("no limit: call of the mill slowest against plain Rust ({name}): {ratio:.2}");
-        sum_up(&[idle, busy, plain])
+        sum_up(&[idle, busy, plain, salvage])
     }
 
     /// The slowest against plain Rust among some of the rows.
@@ -70,7 +74,7 @@ pub struct Advances {
 }
 
 impl Taker for Advances {
-    fn take<Lent: Copy>(
+    fn take<Lent: Clone>(
         &mut self,
         name: &'static str,
         start: &Lent,

@@ -36,7 +36,7 @@ impl Pair {
 }
 
 /// Times a call on both sides. `again` puts back what the call uses up; it is part of both times.
-pub fn calls<Lent: Copy>(
+pub fn calls<Lent: Clone>(
     start: &Lent,
     again: impl Fn(&mut Lent),
     library: impl Fn(&mut Lent),
@@ -64,7 +64,7 @@ struct Side<'start, Lent, Run> {
     repeats: u32,
 }
 
-impl<'start, Lent: Copy, Run: Fn(&mut Lent)> Side<'start, Lent, Run> {
+impl<'start, Lent: Clone, Run: Fn(&mut Lent)> Side<'start, Lent, Run> {
     fn new(start: &'start Lent, run: Run) -> Self {
         let mut side = Side { start, run, repeats: 1 };
         while side.time() < ROUND && side.repeats < 1 << 24 {
@@ -74,7 +74,7 @@ impl<'start, Lent: Copy, Run: Fn(&mut Lent)> Side<'start, Lent, Run> {
     }
 
     fn time(&self) -> Duration {
-        let mut lent = *self.start;
+        let mut lent = self.start.clone();
         let begin = Instant::now();
         for _ in 0..self.repeats {
             (self.run)(black_box(&mut lent));

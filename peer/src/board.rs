@@ -24,6 +24,8 @@ pub enum Refusal {
     Kind = 7,
     /// Log: record cut short.
     Short = 8,
+    /// A lent buffer has too little room for the answer.
+    Room = 12,
     /// The pause key's entry isn't an edge entry.
     Trigger = 14,
 }

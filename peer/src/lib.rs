@@ -6,6 +6,7 @@
 //!
 //! - [`pin`], [`controller`], [`part`], [`timer`], [`timers`], [`board`], [`mill`]: the model.
 //! - [`log`], [`screen`]: event logs, read and replayed, on a board and on a mill.
+//! - [`salvage`]: damaged logs, and what can be got from them.
 //! - [`generate`], [`events`], [`shrink`], [`fuzz`]: random logs, what happens in them, and the
 //!   comparison with another program.
 //! - [`abi`], [`sequence`]: the lent entry's memory layout and its answers; random sequences of
@@ -24,6 +25,7 @@ pub mod mutants;
 pub mod part;
 pub mod pin;
 pub mod random;
+pub mod salvage;
 pub mod screen;
 pub mod sequence;
 pub mod shrink;

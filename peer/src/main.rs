@@ -1,14 +1,15 @@
 //! The command line of the second program.
 
+use std::fs::{self, File};
 use std::io::{Read, Write};
 use std::path::PathBuf;
 use std::process::ExitCode;
 use std::time::SystemTime;
 
 use peer::fuzz::{self, FIXED_SEED, GATE_LOGS, LONG_LOGS};
-use peer::generate::Profile;
 use peer::log::replay_from_reset;
 use peer::mutants;
+use peer::salvage::salvage;
 use peer::screen::{pin_of, screen_from_reset};
 
 const HELP: &str = "\
@@ -21,13 +22,19 @@ The second, independent model of the board.
       The same on a mill whose pause key is told to be PIN, a decimal number, with the words of its
       pause screen.
 
+  peer salvage FILE OUT
+      Copies the whole records of a damaged log from FILE, or from standard input if FILE is -, to the
+      new file OUT, and lists what was skipped. A file that is there already isn't touched.
+
   peer fuzz --replay PATH [--seed N] [--logs N] [--profile NAME] [--long]
   peer fuzz --screen PATH [--seed N] [--logs N] [--profile NAME] [--long]
+  peer fuzz --salvage PATH [--seed N] [--logs N] [--profile NAME] [--long]
       Makes random logs, runs the program at PATH on each and compares its output with this
-      program's, byte for byte; --screen gives it a pin before the log. The first difference is
-      shrunk and shown. Profiles: valid, adversarial, timers, controller, pause, torn; all in turn
-      without --profile. A profile of which enough logs were made has to reach every event that it
-      is meant to reach. --long takes a fresh seed and many logs.
+      program's, byte for byte; --screen gives it a pin before the log, and of --salvage the file that
+      it makes is compared too. The first difference is shrunk and shown. Profiles: valid, adversarial,
+      timers, controller, pause, torn, and of --salvage sound, cut, flipped, inserted, spliced, noise;
+      all in turn without --profile. A profile of which enough logs were made has to reach every event
+      that it is meant to reach. --long takes a fresh seed and many logs.
 
   peer mutants [--seed N] [--logs N]
       Compares wrong models with the right one; every mistake has to be found.
@@ -50,6 +57,7 @@ fn main() -> ExitCode {
         ["replay", file] => replay_command(Some(file)),
         ["screen", pin] => screen_command(pin, None),
         ["screen", pin, file] => screen_command(pin, Some(file)),
+        ["salvage", file, out] => salvage_command(file, out),
         ["fuzz", options @ ..] => fuzz_command(options),
         ["mutants", options @ ..] => mutants_command(options),
         _ => Err(format!("this isn't a command: {}\n\n{HELP}", words.join(" "))),
@@ -73,6 +81,28 @@ fn screen_command(pin: &str, file: Option<&str>) -> Result<bool, String> {
     print_all(&screen_from_reset(pin, &log_from(file)?))
 }
 
+fn salvage_command(file: &str, out: &str) -> Result<bool, String> {
+    let is_option = |word: &str| word.len() > 1 && word.starts_with('-');
+    if out.is_empty() || out == "-" || is_option(out) || is_option(file) {
+        return Err("salvage wants a file and the name of a new one; see peer help".to_string());
+    }
+    let output = salvage(&log_from(Some(file).filter(|&file| file != "-"))?);
+    if let Some(made) = output.made {
+        make(out, &made)?;
+    }
+    print_all(&output.text)
+}
+
+/// Makes a new file; one that can't be written whole is removed again.
+fn make(out: &str, bytes: &[u8]) -> Result<(), String> {
+    let new = File::create_new(out);
+    let mut file = new.map_err(|error| format!("can't make {out}: {error}"))?;
+    file.write_all(bytes).map_err(|error| match fs::remove_file(out) {
+        Ok(()) => format!("can't write {out}: {error}"),
+        Err(left) => format!("can't write {out}: {error}; it can't be removed either: {left}"),
+    })
+}
+
 fn log_from(file: Option<&str>) -> Result<Vec<u8>, String> {
     match file {
         Some(file) => std::fs::read(file).map_err(|error| format!("can't read {file}: {error}")),
@@ -94,34 +124,35 @@ fn read_input() -> std::io::Result<Vec<u8>> {
 }
 
 fn fuzz_command(words: &[&str]) -> Result<bool, String> {
-    let (mut program, mut screen) = (None, false);
+    let mut program = None;
     let (mut seed, mut logs, mut profile, mut long) = (None, None, None, false);
     let mut words = words.iter();
     while let Some(&word) = words.next() {
         match word {
-            "--replay" | "--screen" if program.is_none() => {
-                program = Some(PathBuf::from(value_of(word, words.next())?));
-                screen = word == "--screen";
+            "--replay" | "--screen" | "--salvage" if program.is_none() => {
+                program = Some((word, PathBuf::from(value_of(word, words.next())?)));
             }
             "--seed" => seed = Some(number_of(word, words.next())?),
             "--logs" => logs = Some(number_of(word, words.next())?),
-            "--profile" => profile = Some(profile_of(value_of(word, words.next())?)?),
+            "--profile" => profile = Some(value_of(word, words.next())?.to_string()),
             "--long" => long = true,
             _ => return Err(unknown_option(word)),
         }
     }
     let (usual_seed, usual_logs) =
         if long { (fresh_seed(), LONG_LOGS) } else { (FIXED_SEED, GATE_LOGS) };
+    let (which, program) =
+        program.ok_or("which program? Say --replay PATH, --screen PATH or --salvage PATH")?;
     let options = fuzz::Options {
-        program: program.ok_or("which program? Say --replay PATH or --screen PATH")?,
+        program,
         seed: seed.unwrap_or(usual_seed),
         logs: logs.unwrap_or(usual_logs),
         profile,
     };
-    if screen {
-        fuzz::run::<fuzz::Screen>(&options)
-    } else {
-        fuzz::run::<fuzz::Replay>(&options)
+    match which {
+        "--replay" => fuzz::run::<fuzz::Replay>(&options),
+        "--screen" => fuzz::run::<fuzz::Screen>(&options),
+        _ => fuzz::run::<fuzz::Salvage>(&options),
     }
 }
 
@@ -153,13 +184,6 @@ fn number_of(option: &str, word: Option<&&str>) -> Result<u64, String> {
         None => word.parse(),
     };
     parsed.map_err(|_| format!("{option} wants a number, not {word}"))
-}
-
-fn profile_of(name: &str) -> Result<Profile, String> {
-    Profile::named(name).ok_or_else(|| {
-        let names: Vec<&str> = Profile::ALL.iter().map(|profile| profile.name()).collect();
-        format!("no profile {name}; there are {}", names.join(", "))
-    })
 }
 
 fn fresh_seed() -> u64 {

@@ -1,4 +1,5 @@
-//! Makes a log that shows a difference short: drops records, then simplifies numbers.
+//! Makes a log that shows a difference short: drops records, then simplifies numbers; or drops bytes, where
+//! records aren't what the difference is about.
 
 use crate::log::{records_of, Record};
 
@@ -20,6 +21,43 @@ pub fn shrink(log: &[u8], effort: usize, differs: impl FnMut(&[u8]) -> bool) -> 
         return log.to_vec();
     }
     join(&shrinker.records, &shrinker.tail)
+}
+
+/// The same by bytes: drops runs of them, long ones first, then makes as many as can be 0.
+pub fn shrink_bytes(
+    log: &[u8],
+    mut effort: usize,
+    mut differs: impl FnMut(&[u8]) -> bool,
+) -> Vec<u8> {
+    let mut is_still_different = |log: &[u8]| {
+        let left = effort.checked_sub(log.len() + TRIAL);
+        left.is_some_and(|left| {
+            effort = left;
+            differs(log)
+        })
+    };
+    let mut short = log.to_vec();
+    let mut run = short.len();
+    while run > 0 {
+        let mut start = 0;
+        while start < short.len() {
+            let end = (start + run).min(short.len());
+            let fewer = [&short[..start], &short[end..]].concat();
+            if is_still_different(&fewer) {
+                short = fewer;
+            } else {
+                start += run;
+            }
+        }
+        run /= 2;
+    }
+    for place in 0..short.len() {
+        let old = std::mem::take(&mut short[place]);
+        if old != 0 && !is_still_different(&short) {
+            short[place] = old;
+        }
+    }
+    short
 }
 
 struct Shrinker<Differs> {

@@ -19,6 +19,7 @@ numberOf refusal.State = 5
 numberOf refusal.Mark = 6
 numberOf refusal.Kind = 7
 numberOf refusal.Short = 8
+numberOf refusal.NoRoom = 12
 numberOf refusal.NotEdge = 14
 
 -- a number by itself: read value 0, counts 0, no delivery

@@ -24,6 +24,8 @@ pub enum Refusal {
     Kind,
     // 8: log: record cut short
     Short,
+    // 12: a lent buffer is too small
+    NoRoom,
     // 14: the pause pin's entry isn't an edge entry
     NotEdge,
 }
@@ -74,6 +76,7 @@ impl Refusal {
             Refusal::Mark => 6,
             Refusal::Kind => 7,
             Refusal::Short => 8,
+            Refusal::NoRoom => 12,
             Refusal::NotEdge => 14,
         }
     }

@@ -77,6 +77,14 @@ fn is_dashed(i: usize) -> bool {
     }
 }
 
+fn is_standard(i: usize) -> bool {
+    let kind = kind_at(i);
+    match kind {
+        Argument::Standard => true,
+        _ => false,
+    }
+}
+
 // Whether `-h` or `--help` is among the arguments.
 pub fn asks_help() -> bool {
     let count = os::arg_count();
@@ -100,4 +108,24 @@ pub fn one_input(i: usize) -> bool {
         return false;
     }
     !is_dashed(i)
+}
+
+// Whether argument i is an input and no option, the one after it a file's name, so neither an option nor standard
+// input, and there is no other.
+pub fn input_and_file(i: usize) -> bool {
+    let count = os::arg_count();
+    if count <= i {
+        return false;
+    }
+    let last = count - 1;
+    if last - i != 1 {
+        return false;
+    }
+    if is_dashed(i) {
+        return false;
+    }
+    if is_dashed(last) {
+        return false;
+    }
+    !is_standard(last)
 }

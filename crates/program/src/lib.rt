@@ -8,10 +8,13 @@ mod output;
 mod transfer;
 
 pub use arguments::asks_help;
+pub use arguments::input_and_file;
 pub use arguments::one_input;
 pub use decimal::Number;
 pub use decimal::number_at;
 pub use input::read_input;
+pub use output::names_file;
 pub use output::print;
 pub use output::usage;
+pub use output::write_new;
 pub use transfer::Transfer;

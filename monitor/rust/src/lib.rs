@@ -19,14 +19,17 @@
 //! ```
 //!
 //! A [`Mill`] is a board with its pause screen, 296 bytes: for a monitor that shows whether the machine is paused.
+//! [`salvage`] gets what can be got from a damaged log, and needs no board.
 //!
 //! What is proved: for every argument and every byte pattern of the board or the mill, what it is after a call and the answer
 //! are those of the model's own call by value. A refused call leaves every byte as it was.
 #![warn(missing_docs)]
 
 mod mill;
+mod salvage;
 
 pub use mill::{Mill, Screen, Word};
+pub use salvage::{salvage, Salvaged};
 
 use std::fmt;
 use std::mem::{align_of, size_of, transmute};
@@ -157,7 +160,7 @@ pub const COMPARATOR: u64 = 0x008;
 /// From a register of the timers' window to its high half, of width 4. The low half is at the register's own offset.
 pub const HIGH_HALF: u64 = 0x004;
 
-/// Why a call was refused. The board or the mill is as it was.
+/// Why a call was refused. The board or the mill, or what else was lent, is as it was.
 #[derive(Clone, Copy, Debug, PartialEq, Eq, Hash)]
 #[repr(u32)]
 pub enum Refusal {
@@ -171,12 +174,14 @@ pub enum Refusal {
     Value = 4,
     /// The board or the mill is not well formed.
     State = 5,
+    /// The records or the list don't fit: a salvage alone gives this.
+    Room = 12,
     /// The pause pin that is told has a level entry: a mill's telling alone gives this.
     NotEdge = 14,
 }
 
 impl Refusal {
-    /// The number of the refusal: 1 to 5, or 14.
+    /// The number of the refusal: 1 to 5, 12 or 14.
     pub fn number(self) -> u32 {
         self as u32
     }
@@ -190,6 +195,7 @@ impl fmt::Display for Refusal {
             Refusal::Pin => "pin above 23",
             Refusal::Value => "wire level above 1, or a 4-byte write with a value above 4,294,967,295",
             Refusal::State => "the board or the mill is not well formed",
+            Refusal::Room => "the records or the list don't fit",
             Refusal::NotEdge => "the pause pin's entry is not an edge entry",
         })
     }
@@ -454,3 +460,4 @@ layout!(Numbers, 32, 8, value at 0, number at 8, delivered at 12, fired at 16, p
     logical at 31);
 layout!(Screen, 8, 2, told at 0, pin at 2, word at 4, vector at 6);
 layout!(Mill, 296, 8, board at 0, screen at 288);
+layout!(Salvaged, 32, 8, number at 0, records at 8, bytes at 16, stretches at 24);

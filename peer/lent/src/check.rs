@@ -1,12 +1,10 @@
-//! What the two checks have in common.
+//! What the checks have in common.
 
 use std::fmt::Debug;
 use std::process::ExitCode;
 
 use peer::abi::Reply;
 
-/// How many calls are compared, unless told otherwise.
-const CALLS: u64 = 2_000_000;
 /// So many differences are shown.
 const SHOWN: u64 = 3;
 
@@ -60,13 +58,19 @@ impl Tally {
     ) {
         let mut given = Guarded::new(wanted.before);
         let reply = make(&mut given.lent, wanted.call);
-        if reply == wanted.reply && given == Guarded::new(wanted.after) {
+        let agrees = reply == wanted.reply && given == Guarded::new(wanted.after);
+        self.judge(agrees, || show(wanted, &given, reply));
+    }
+
+    /// Counts one call; the first that don't agree are shown.
+    pub fn judge(&mut self, agrees: bool, show: impl FnOnce()) {
+        if agrees {
             self.passed += 1;
             return;
         }
         self.failed += 1;
         if self.failed <= SHOWN {
-            show(wanted, &given, reply);
+            show();
         }
     }
 
@@ -103,14 +107,19 @@ fn show<Lent: Copy + Eq + Debug, Call: Debug>(
     }
 }
 
-/// Runs a check with the seed and the number of calls that the command line says.
-pub fn run(name: &str, help: &str, check: impl FnOnce(u64, u64) -> ExitCode) -> ExitCode {
+/// Runs a check with the seed and the number of calls that the command line says, or with so many calls.
+pub fn run(
+    name: &str,
+    help: &str,
+    calls: u64,
+    check: impl FnOnce(u64, u64) -> ExitCode,
+) -> ExitCode {
     let words: Vec<String> = std::env::args().skip(1).collect();
     if words.iter().any(|word| word == "--help" || word == "-h") {
         print!("{help}");
         return ExitCode::SUCCESS;
     }
-    match options(&words) {
+    match options(&words, calls) {
         Ok((seed, calls)) => check(seed, calls),
         Err(message) => {
             eprintln!("{name}: {message}; see --help");
@@ -119,8 +128,8 @@ pub fn run(name: &str, help: &str, check: impl FnOnce(u64, u64) -> ExitCode) -> 
     }
 }
 
-fn options(words: &[String]) -> Result<(u64, u64), String> {
-    let (mut seed, mut calls) = (peer::fuzz::FIXED_SEED, CALLS);
+fn options(words: &[String], usual: u64) -> Result<(u64, u64), String> {
+    let (mut seed, mut calls) = (peer::fuzz::FIXED_SEED, usual);
     for pair in words.chunks(2) {
         let [option, value] = pair else { return Err(format!("{} wants a value", pair[0])) };
         let number = value.parse().map_err(|_| format!("{option} wants a number, not {value}"))?;

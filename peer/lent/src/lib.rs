@@ -3,11 +3,12 @@
 pub mod check;
 
 use peer::abi::mill::{Mill, MillCall};
+use peer::abi::salvage::Salvaged;
 use peer::abi::{Board, Call, Reply};
 
 /// The C interface.
 mod entry {
-    use super::{Board, Mill, Reply};
+    use super::{Board, Mill, Reply, Salvaged};
 
     extern "C" {
         pub fn nataqvoju_reset(board: *mut Board) -> Reply;
@@ -24,11 +25,19 @@ mod entry {
         pub fn nataqvoju_advance(board: *mut Board, ticks: u32) -> Reply;
         pub fn nataqvoju_deliver(board: *mut Board) -> Reply;
         pub fn nataqvoju_mill(mill: *mut Mill, kind: u64, a: u64, b: u64, c: u64, d: u64) -> Reply;
+        pub fn nataqvoju_salvage(
+            log: *const u8,
+            log_length: usize,
+            kept: *mut u8,
+            kept_length: usize,
+            list: *mut u64,
+            list_length: usize,
+        ) -> Salvaged;
     }
 }
 
-// SAFETY, for every call below: the board or the mill is lent for the length of the call, and the entry
-// answers any bytes in it.
+// SAFETY, for every call below: what is lent is lent for the length of the call, and the entry answers any
+// bytes in it.
 
 /// Resets the board.
 pub fn reset(board: &mut Board) -> Reply {
@@ -81,4 +90,12 @@ pub fn call(board: &mut Board, call: Call) -> Reply {
 /// Makes any call of the mill.
 pub fn mill(mill: &mut Mill, MillCall { kind, numbers: [a, b, c, d] }: MillCall) -> Reply {
     unsafe { entry::nataqvoju_mill(mill, kind, a, b, c, d) }
+}
+
+/// Salvages a log. The log may be written, so that a call that does it shows.
+pub fn salvage(log: &mut [u8], kept: &mut [u8], list: &mut [u64]) -> Salvaged {
+    let (log, log_length) = (log.as_mut_ptr(), log.len());
+    let (kept, kept_length) = (kept.as_mut_ptr(), kept.len());
+    let (list, list_length) = (list.as_mut_ptr(), list.len());
+    unsafe { entry::nataqvoju_salvage(log, log_length, kept, kept_length, list, list_length) }
 }

@@ -10,6 +10,9 @@ use lent::check::{Tally, Wanted};
 use peer::abi::Call;
 use peer::sequence::{Maker, Sequence};
 
+/// How many calls are compared, unless told otherwise.
+const CALLS: u64 = 2_000_000;
+
 const HELP: &str = "\
 lent-check [--seed N] [--calls N]
 
@@ -20,7 +23,7 @@ that is counted has to come. The last line is `N passed, M failed`, in calls.
 ";
 
 fn main() -> ExitCode {
-    lent::check::run("lent-check", HELP, check)
+    lent::check::run("lent-check", HELP, CALLS, check)
 }
 
 fn check(seed: u64, calls: u64) -> ExitCode {

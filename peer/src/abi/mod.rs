@@ -1,5 +1,5 @@
 //! The lent entries' memory layout, and what each of their calls has to answer: the board's here,
-//! the mill's in [`mill`].
+//! the mill's in [`mill`], the salvage's in [`mod@salvage`].
 //!
 //! No struct has padding, so equal fields are equal bytes. Fields are as wide as the C interface
 //! has them; what doesn't fit the model's types isn't well formed.
@@ -7,6 +7,7 @@
 mod call;
 pub mod mill;
 mod model;
+pub mod salvage;
 
 use crate::pin::PINS;
 use crate::timers::TIMERS;

@@ -1,10 +1,13 @@
 //! Lists of events, and how often each happened.
 
-use crate::generate::Profile;
+use crate::generate::Sort;
 use std::marker::PhantomData;
 
 /// Events of one list.
 pub trait Listed: Copy + 'static {
+    /// The sorts of logs that reach them.
+    type Sort: Sort;
+
     /// All of them, in the order of their numbers.
     const ALL: &'static [Self];
 
@@ -14,30 +17,19 @@ pub trait Listed: Copy + 'static {
     /// What it is, in words.
     fn text(self) -> &'static str;
 
-    /// The letters of the profiles that have to reach it.
+    /// The letters of the sorts that have to reach it.
     fn wanted(self) -> &'static str;
 
-    /// The profile is meant to reach it.
-    fn is_wanted_in(self, profile: Profile) -> bool {
-        self.wanted().contains(letter(profile))
+    /// The sort is meant to reach it.
+    fn is_wanted_in(self, sort: Self::Sort) -> bool {
+        self.wanted().contains(sort.letter())
     }
 }
 
-fn letter(profile: Profile) -> char {
-    match profile {
-        Profile::Valid => 'v',
-        Profile::Adversarial => 'a',
-        Profile::Timers => 't',
-        Profile::Controller => 'c',
-        Profile::Pause => 'p',
-        Profile::Torn => 'x',
-    }
-}
-
-/// Declares a list of events: name, what it is, and the profiles that have to reach it (by letter:
-/// v valid, a adversarial, t timers, c controller, p pause, x torn).
+/// Declares a list of events in logs of some sorts: name, what it is, and the sorts that have to reach it,
+/// by letter.
 macro_rules! events {
-    ($list:ident; $($name:ident: $text:literal, $wanted:literal;)*) => {
+    ($list:ident, $sort:ty; $($name:ident: $text:literal, $wanted:literal;)*) => {
         /// An interesting event.
         #[derive(Clone, Copy, PartialEq, Eq, Debug)]
         pub enum $list {
@@ -45,6 +37,8 @@ macro_rules! events {
         }
 
         impl $crate::events::Listed for $list {
+            type Sort = $sort;
+
             const ALL: &'static [$list] = &[$($list::$name,)*];
 
             fn number(self) -> usize {

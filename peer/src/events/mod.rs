@@ -4,21 +4,24 @@
 mod halves;
 mod list;
 mod registers;
+mod salvage;
 mod screen;
 mod screen_watch;
 mod ticks;
 mod watch;
 
 use crate::board::Refusal;
+use crate::generate::Profile;
 use crate::log::{records_of, LONGEST};
 use list::events;
 use watch::Watcher;
 
 pub use list::{Counts, Listed};
+pub use salvage::SalvageEvent;
 pub use screen::ScreenEvent;
 
 events! {
-    Event;
+    Event, Profile;
     WireEdge: "edge by an outside wire", "vatc";
     WireEdgeActiveLow: "edge by a falling outside wire, active low", "vatc";
     WireMasked: "edge ignored on a masked pin", "vtc";

@@ -3,12 +3,13 @@
 use super::list::events;
 use super::screen_watch::ScreenWatcher;
 use super::Counts;
+use crate::generate::Profile;
 use crate::log::{records_of, LONGEST};
 use crate::mill::{Mill, MillCalls};
 use crate::screen::pin_of;
 
 events! {
-    ScreenEvent;
+    ScreenEvent, Profile;
     AskedByWire: "running becomes asked by an outside wire", "vacp";
     AskedByAdvance: "running becomes asked by an advance", "vatp";
     AskedByRegister: "running becomes asked by a timer register write", "vtp";

@@ -1,18 +1,17 @@
 //! Compares another program with this one, on random logs.
 
 mod other;
+mod show;
 mod subject;
 
 use std::path::PathBuf;
 use std::time::{Duration, Instant};
 
 use crate::events::{Counts, Listed};
-use crate::generate::Profile;
-use crate::log::records_of;
-use crate::shrink::shrink;
-use other::{hex, Other, Way};
+use crate::generate::Sort;
+use other::{Other, Outcome, Way};
 
-pub use subject::{Case, Replay, Screen, Subject};
+pub use subject::{Case, Replay, Salvage, Screen, SortOf, Subject};
 
 /// The seed that the gate uses.
 pub const FIXED_SEED: u64 = 0x7EB5;
@@ -20,7 +19,7 @@ pub const FIXED_SEED: u64 = 0x7EB5;
 pub const GATE_LOGS: u64 = 3_000;
 /// How many logs a long run compares, unless told otherwise.
 pub const LONG_LOGS: u64 = 200_000;
-/// From so many logs of a profile on, it has to reach every event it is meant to reach.
+/// From so many logs of a sort on, it has to reach every event it is meant to reach.
 const ENOUGH_LOGS: u64 = 400;
 /// The effort to shrink a difference.
 const SHRINK_EFFORT: usize = 8_000_000;
@@ -33,8 +32,8 @@ pub struct Options {
     pub seed: u64,
     /// How many logs.
     pub logs: u64,
-    /// Only this profile, or all in turn.
-    pub profile: Option<Profile>,
+    /// Only the sort of logs of this name, or all in turn.
+    pub profile: Option<String>,
 }
 
 /// Compares, prints the tables and `N passed, M failed`; answers whether nothing failed.
@@ -56,17 +55,17 @@ pub fn run<S: Subject>(options: &Options) -> Result<bool, String> {
     }
     comparison.print_events();
     let missing = comparison.missing();
-    for (profile, event) in &missing {
-        println!("profile {} never reached: {}", profile.name(), event.text());
+    for (sort, event) in &missing {
+        println!("profile {} never reached: {}", sort.name(), event.text());
     }
     comparison.print_totals(start.elapsed());
     println!("{passed} passed, {} failed", missing.len());
     Ok(missing.is_empty())
 }
 
-/// What one profile has done so far.
+/// What one sort of logs has done so far.
 struct Tally<S: Subject> {
-    profile: Profile,
+    sort: SortOf<S>,
     logs: u64,
     records: usize,
     counts: Counts<S::Event>,
@@ -80,12 +79,12 @@ struct Comparison<'options, S: Subject> {
 
 impl<'options, S: Subject> Comparison<'options, S> {
     fn new(options: &'options Options) -> Result<Self, String> {
-        let profiles = match options.profile {
-            Some(profile) => vec![profile],
-            None => Profile::ALL.to_vec(),
+        let sorts = match &options.profile {
+            Some(name) => vec![sort_named::<SortOf<S>>(name)?],
+            None => SortOf::<S>::ALL.to_vec(),
         };
-        let new = |profile| Tally { profile, logs: 0, records: 0, counts: Counts::new() };
-        let tallies = profiles.into_iter().map(new).collect();
+        let new = |sort| Tally { sort, logs: 0, records: 0, counts: Counts::new() };
+        let tallies = sorts.into_iter().map(new).collect();
         Ok(Comparison { options, other: Other::new(&options.program)?, tallies })
     }
 
@@ -93,7 +92,7 @@ impl<'options, S: Subject> Comparison<'options, S> {
     fn compare(&mut self, number: u64) -> Result<bool, String> {
         let turn = (number % self.tallies.len() as u64) as usize;
         let tally = &mut self.tallies[turn];
-        let case = S::case(tally.profile, self.options.seed, number);
+        let case = S::case(tally.sort, self.options.seed, number);
         tally.logs += 1;
         tally.records += S::watch(&mut tally.counts, &case);
         let way = match number % 8 {
@@ -101,11 +100,11 @@ impl<'options, S: Subject> Comparison<'options, S> {
             6 => Way::Pipe,
             _ => Way::Argument,
         };
-        if self.other.run(&case, way)? == S::output(&case).as_bytes() {
+        if self.other.run::<S>(&case, way)? == Outcome::own::<S>(&case) {
             return Ok(true);
         }
-        let profile = tally.profile.name();
-        println!("log {number} (profile {profile}) by {way:?}: the outputs differ");
+        let sort = tally.sort.name();
+        println!("log {number} (profile {sort}) by {way:?}: the outputs differ");
         self.show_difference(&case, way)?;
         Ok(false)
     }
@@ -113,42 +112,33 @@ impl<'options, S: Subject> Comparison<'options, S> {
     fn show_difference(&self, case: &Case, way: Way) -> Result<(), String> {
         let differs = |log: &[u8]| {
             let case = case.with_log(log.to_vec());
-            let output = self.other.run(&case, way);
-            output.is_ok_and(|output| output != S::output(&case).as_bytes())
+            self.other.run::<S>(&case, way).is_ok_and(|other| other != Outcome::own::<S>(&case))
         };
-        let short = case.with_log(shrink(&case.log, SHRINK_EFFORT, differs));
-        let records = records_of(&short.log).0.len();
-        println!("shrunk to {records} records, {} bytes:", short.log.len());
-        println!("{}", hex(&short.log));
-        short.pin.iter().for_each(|pin| println!("pin {pin}"));
-        println!("--- peer");
-        print!("{}", S::output(&short));
-        println!("--- {}", self.options.program.display());
-        print!("{}", String::from_utf8_lossy(&self.other.run(&short, way)?));
-        println!("---");
-        Ok(())
+        let short = case.with_log(S::shrink(&case.log, SHRINK_EFFORT, differs));
+        let other = self.other.run::<S>(&short, way)?;
+        show::difference(&short, &Outcome::own::<S>(&short), &other, &self.options.program)
     }
 
-    fn missing(&self) -> Vec<(Profile, S::Event)> {
+    fn missing(&self) -> Vec<(SortOf<S>, S::Event)> {
         let mut missing = Vec::new();
         for tally in self.tallies.iter().filter(|tally| tally.logs >= ENOUGH_LOGS) {
             for &event in S::Event::ALL {
-                if event.is_wanted_in(tally.profile) && tally.counts.of(event) == 0 {
-                    missing.push((tally.profile, event));
+                if event.is_wanted_in(tally.sort) && tally.counts.of(event) == 0 {
+                    missing.push((tally.sort, event));
                 }
             }
         }
         missing
     }
 
-    /// Events by profile; a star marks what the profile is meant to reach.
+    /// Events by sort of logs; a star marks what the sort is meant to reach.
     fn print_events(&self) {
         let heads: String =
-            self.tallies.iter().map(|tally| format!("{:>13}", tally.profile.name())).collect();
+            self.tallies.iter().map(|tally| format!("{:>13}", tally.sort.name())).collect();
         println!("{:<58}{heads}", "event (* is to be reached)");
         for &event in S::Event::ALL {
             let cell = |tally: &Tally<S>| {
-                let star = if event.is_wanted_in(tally.profile) { "*" } else { " " };
+                let star = if event.is_wanted_in(tally.sort) { "*" } else { " " };
                 format!("{:>12}{star}", tally.counts.of(event))
             };
             let cells: String = self.tallies.iter().map(cell).collect();
@@ -160,8 +150,15 @@ impl<'options, S: Subject> Comparison<'options, S> {
         let logs: u64 = self.tallies.iter().map(|tally| tally.logs).sum();
         let records: usize = self.tallies.iter().map(|tally| tally.records).sum();
         for tally in &self.tallies {
-            println!("{}: {} logs, {} records", tally.profile.name(), tally.logs, tally.records);
+            println!("{}: {} logs, {} records", tally.sort.name(), tally.logs, tally.records);
         }
         println!("{logs} logs, {records} records in {:.1} s", time.as_secs_f64());
     }
+}
+
+fn sort_named<S: Sort>(name: &str) -> Result<S, String> {
+    S::named(name).ok_or_else(|| {
+        let names: Vec<&str> = S::ALL.iter().map(|sort| sort.name()).collect();
+        format!("no profile {name}; there are {}", names.join(", "))
+    })
 }

@@ -1,14 +1,14 @@
 //! The other program, run on a case.
 
 use std::fs;
-use std::io::{Read, Write};
+use std::io::{ErrorKind, Read, Write};
 use std::path::{Path, PathBuf};
 use std::process::{Child, Command, Stdio};
 use std::sync::mpsc;
 use std::thread;
 use std::time::Duration;
 
-use super::Case;
+use super::{Case, Subject};
 
 /// A run that takes longer is taken for one that doesn't end.
 const PATIENCE: Duration = Duration::from_secs(60);
@@ -16,6 +16,29 @@ const PATIENCE: Duration = Duration::from_secs(60);
 pub(super) fn hex(bytes: &[u8]) -> String {
     let words: Vec<String> = bytes.iter().map(|byte| format!("{byte:02X}")).collect();
     words.join(" ")
+}
+
+/// The bytes, or how many there are.
+fn brief(log: &[u8]) -> String {
+    if log.len() <= 2_000 {
+        hex(log)
+    } else {
+        format!("a log of {} bytes", log.len())
+    }
+}
+
+/// What a program prints, and what the file has that it makes, if it makes one.
+#[derive(PartialEq, Eq)]
+pub(super) struct Outcome {
+    pub(super) text: Vec<u8>,
+    pub(super) made: Option<Vec<u8>>,
+}
+
+impl Outcome {
+    /// This program's own.
+    pub(super) fn own<S: Subject>(case: &Case) -> Outcome {
+        Outcome { text: S::output(case).into_bytes(), made: S::made(case) }
+    }
 }
 
 /// How a log is handed to the other program.
@@ -40,32 +63,49 @@ impl Other {
         Ok(Other { program: program.to_path_buf(), folder })
     }
 
-    /// Its output for a case. A program that can't be started, or doesn't end, is an error.
-    pub(super) fn run(&self, case: &Case, way: Way) -> Result<Vec<u8>, String> {
-        let child = self
-            .start(case, way)
-            .map_err(|error| format!("can't run {}: {error}", self.program.display()))?;
-        collect(child)
-            .ok_or_else(|| format!("{} doesn't end on {}", self.program.display(), hex(&case.log)))
+    /// What comes of a case. A program that can't be started, or doesn't end, is an error.
+    pub(super) fn run<S: Subject>(&self, case: &Case, way: Way) -> Result<Outcome, String> {
+        let program = self.program.display();
+        let child =
+            self.start::<S>(case, way).map_err(|error| format!("can't run {program}: {error}"))?;
+        let text = collect(child)
+            .ok_or_else(|| format!("{program} doesn't end on {}", brief(&case.log)))?;
+        let made = match fs::read(self.out()) {
+            Ok(bytes) => Some(bytes),
+            Err(error) if error.kind() == ErrorKind::NotFound => None,
+            Err(error) => return Err(format!("can't read what {program} made: {error}")),
+        };
+        Ok(Outcome { text, made })
     }
 
-    fn start(&self, Case { pin, log }: &Case, way: Way) -> std::io::Result<Child> {
-        let file = self.folder.join("log");
+    /// The file that it may make.
+    fn out(&self) -> PathBuf {
+        self.folder.join("out")
+    }
+
+    fn start<S: Subject>(&self, case: &Case, way: Way) -> std::io::Result<Child> {
+        let (file, out) = (self.folder.join("log"), self.out());
+        match fs::remove_file(&out) {
+            Err(error) if error.kind() != ErrorKind::NotFound => return Err(error),
+            _ => {}
+        }
+        let argument = matches!(way, Way::Argument).then_some(file.as_path());
         let mut command = Command::new(&self.program);
-        command.args(pin).stdout(Stdio::piped()).stderr(Stdio::null());
+        command.args(S::arguments(case, argument, &out));
+        command.stdout(Stdio::piped()).stderr(Stdio::null());
         match way {
             Way::Argument => {
-                fs::write(&file, log)?;
-                command.arg(&file).stdin(Stdio::null()).spawn()
+                fs::write(&file, &case.log)?;
+                command.stdin(Stdio::null()).spawn()
             }
             Way::StandardInput => {
-                fs::write(&file, log)?;
+                fs::write(&file, &case.log)?;
                 command.stdin(fs::File::open(&file)?).spawn()
             }
             Way::Pipe => {
                 let mut child = command.stdin(Stdio::piped()).spawn()?;
                 let mut input = child.stdin.take().expect("the input is a pipe");
-                let log = log.to_vec();
+                let log = case.log.clone();
                 // A program that stops reading early closes the pipe; its output shows that.
                 thread::spawn(move || input.write_all(&log));
                 Ok(child)

@@ -1,10 +1,15 @@
-//! What is compared: the program `replay`, or the program `screen`.
+//! What is compared: the program `replay`, `screen` or `salvage_log`.
 
-use crate::events::{Counts, Event, Listed, ScreenEvent};
-use crate::generate::{keyed_log, log, Log, Profile};
+use std::ffi::OsString;
+use std::path::Path;
+
+use crate::events::{Counts, Event, Listed, SalvageEvent, ScreenEvent};
+use crate::generate::{damaged_log, keyed_log, log, Damage, Log, Profile};
 use crate::log::{replay_from_reset, LONGEST};
 use crate::random::Random;
+use crate::salvage::salvage;
 use crate::screen::{pin_of, screen_from_reset};
+use crate::shrink::{shrink, shrink_bytes};
 
 /// What a program is run on.
 #[derive(Clone)]
@@ -22,19 +27,36 @@ impl Case {
     }
 }
 
+/// The sorts of cases that a program is compared on.
+pub type SortOf<S> = <<S as Subject>::Event as Listed>::Sort;
+
 /// A program that this one has too.
 pub trait Subject {
     /// What is counted in its cases.
     type Event: Listed;
 
     /// The case with this number: the seed and the number decide it.
-    fn case(profile: Profile, seed: u64, number: u64) -> Case;
+    fn case(sort: SortOf<Self>, seed: u64, number: u64) -> Case;
+
+    /// What the program is called with. The log is a file, or standard input; a file that the program
+    /// makes is `out`.
+    fn arguments(case: &Case, log: Option<&Path>, out: &Path) -> Vec<OsString>;
 
     /// This program's whole output.
     fn output(case: &Case) -> String;
 
+    /// What the file has that it makes, if it makes one.
+    fn made(_: &Case) -> Option<Vec<u8>> {
+        None
+    }
+
     /// Counts what happens; answers the number of records.
     fn watch(counts: &mut Counts<Self::Event>, case: &Case) -> usize;
+
+    /// A short log that still differs.
+    fn shrink(log: &[u8], effort: usize, differs: impl FnMut(&[u8]) -> bool) -> Vec<u8> {
+        shrink(log, effort, differs)
+    }
 }
 
 /// `replay [FILE]`
@@ -45,6 +67,10 @@ impl Subject for Replay {
 
     fn case(profile: Profile, seed: u64, number: u64) -> Case {
         Case { pin: None, log: log(profile, seed, number) }
+    }
+
+    fn arguments(_: &Case, log: Option<&Path>, _: &Path) -> Vec<OsString> {
+        log.map(OsString::from).into_iter().collect()
     }
 
     fn output(case: &Case) -> String {
@@ -82,6 +108,10 @@ impl Subject for Screen {
         Case { pin: Some(pin), log: bytes }
     }
 
+    fn arguments(case: &Case, log: Option<&Path>, _: &Path) -> Vec<OsString> {
+        [Screen::pin(case).into()].into_iter().chain(log.map(OsString::from)).collect()
+    }
+
     fn output(case: &Case) -> String {
         let pin = pin_of(Screen::pin(case)).expect("every case has a number for its pin");
         screen_from_reset(pin, &case.log)
@@ -89,6 +119,37 @@ impl Subject for Screen {
 
     fn watch(counts: &mut Counts<ScreenEvent>, case: &Case) -> usize {
         counts.watch(Screen::pin(case), &case.log)
+    }
+}
+
+/// `salvage_log FILE OUT`
+pub struct Salvage;
+
+impl Subject for Salvage {
+    type Event = SalvageEvent;
+
+    fn case(damage: Damage, seed: u64, number: u64) -> Case {
+        Case { pin: None, log: damaged_log(damage, seed, number) }
+    }
+
+    fn arguments(_: &Case, log: Option<&Path>, out: &Path) -> Vec<OsString> {
+        vec![log.map_or("-".into(), OsString::from), out.into()]
+    }
+
+    fn output(case: &Case) -> String {
+        salvage(&case.log).text
+    }
+
+    fn made(case: &Case) -> Option<Vec<u8>> {
+        salvage(&case.log).made
+    }
+
+    fn watch(counts: &mut Counts<SalvageEvent>, case: &Case) -> usize {
+        counts.watch(&case.log)
+    }
+
+    fn shrink(log: &[u8], effort: usize, differs: impl FnMut(&[u8]) -> bool) -> Vec<u8> {
+        shrink_bytes(log, effort, differs)
     }
 }
 

@@ -5,6 +5,7 @@
 //! keeps to a few pins and vectors, and reads the registers back often.
 
 mod choices;
+mod damage;
 mod halves;
 mod maker;
 mod moves;
@@ -13,11 +14,34 @@ mod scenes;
 mod states;
 mod torn;
 
+pub use damage::{damaged_log, short_damaged_log, Damage};
 pub use states::random_board;
 
 use crate::log::LONGEST;
 use crate::random::Random;
 use maker::Maker;
+
+/// Sorts of logs that come in turn.
+pub trait Sort: Copy + PartialEq + 'static {
+    /// All of them.
+    const ALL: &'static [Self];
+
+    /// The name on the command line.
+    fn name(self) -> &'static str;
+
+    /// The letter in the lists of events.
+    fn letter(self) -> char;
+
+    /// The sort of that name.
+    fn named(name: &str) -> Option<Self> {
+        Self::ALL.iter().copied().find(|sort| sort.name() == name)
+    }
+
+    /// The sort whose turn it is.
+    fn in_turn(number: u64) -> Self {
+        Self::ALL[(number % Self::ALL.len() as u64) as usize]
+    }
+}
 
 /// What a log is mostly about.
 #[derive(Clone, Copy, PartialEq, Eq, Debug)]
@@ -55,9 +79,12 @@ impl Profile {
         Profile::Controller,
         Profile::Pause,
     ];
+}
 
-    /// The name on the command line.
-    pub fn name(self) -> &'static str {
+impl Sort for Profile {
+    const ALL: &'static [Profile] = &Profile::ALL;
+
+    fn name(self) -> &'static str {
         match self {
             Profile::Valid => "valid",
             Profile::Adversarial => "adversarial",
@@ -68,9 +95,15 @@ impl Profile {
         }
     }
 
-    /// The profile of that name.
-    pub fn named(name: &str) -> Option<Profile> {
-        Profile::ALL.into_iter().find(|profile| profile.name() == name)
+    fn letter(self) -> char {
+        match self {
+            Profile::Valid => 'v',
+            Profile::Adversarial => 'a',
+            Profile::Timers => 't',
+            Profile::Controller => 'c',
+            Profile::Pause => 'p',
+            Profile::Torn => 'x',
+        }
     }
 }
 

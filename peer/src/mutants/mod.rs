@@ -1,15 +1,17 @@
 //! Shows that the comparison catches mistakes: each wrong model against the right one, on the
 //! same random logs, or on the same random sequences of calls if the mistake is one in a reset.
 //! A mistake that isn't found is a hole in the generator. Mistakes of a pause screen are in
-//! [`screen`].
+//! [`screen`], those of a salvage in [`salvage`].
 
+mod salvage;
 mod screen;
 
 use crate::abi::Reply;
-use crate::generate::{self, Profile};
+use crate::generate::{self, Profile, Sort};
 use crate::log::{records_of, replay_from_reset};
 use crate::sequence::{Maker, Sequence};
 use crate::shrink::shrink;
+use crate::wrong::salvage::SalvageMistake;
 use crate::wrong::screen::ScreenMistake;
 use crate::wrong::{self, Mistake};
 
@@ -35,14 +37,24 @@ pub fn run(seed: u64, logs: u64) -> bool {
     };
     let found = Mistake::ALL.iter().filter(|&&mistake| is_found(mistake)).count();
     let screen = screen::Search::new(seed, logs).run();
-    let (found, all) = (found + screen, Mistake::ALL.len() + ScreenMistake::ALL.len());
+    let salvage = salvage::Search::new(seed, logs).run();
+    let found = found + screen + salvage;
+    let all = Mistake::ALL.len() + ScreenMistake::ALL.len() + SalvageMistake::ALL.len();
     println!("{found} passed, {} failed", all - found);
     found == all
 }
 
-/// The profiles come in turn.
-fn profile_of(number: u64) -> Profile {
-    Profile::ALL[(number % Profile::ALL.len() as u64) as usize]
+/// Where a mistake was found, or where it was looked for and not found.
+type Place = Result<String, String>;
+
+/// Prints a line for a mistake that has to be found in several places; answers whether it was.
+fn is_found_in(text: &str, places: [Option<Place>; 2]) -> bool {
+    let words = places.iter().flatten().map(|place| match place {
+        Ok(found) => format!("found after {found}"),
+        Err(looked) => format!("NOT FOUND in {looked}"),
+    });
+    println!("{text:<64} {}", words.collect::<Vec<_>>().join("; "));
+    places.iter().flatten().all(Result::is_ok)
 }
 
 /// A log with its right output.
@@ -53,7 +65,7 @@ struct Case {
 
 impl Case {
     fn new(seed: u64, number: u64) -> Case {
-        let log = generate::log(profile_of(number), seed, number);
+        let log = generate::log(Profile::in_turn(number), seed, number);
         Case { right: replay_from_reset(&log), log }
     }
 }

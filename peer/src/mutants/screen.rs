@@ -1,8 +1,9 @@
 //! Looks for the mistakes of a pause screen: in the outputs that `fuzz --screen` compares, and in
 //! the calls whose replies and memory `mill-check` compares.
 
-use super::{profile_of, SHRINK_EFFORT};
+use super::{is_found_in, Place, SHRINK_EFFORT};
 use crate::fuzz::{Case, Screen, Subject};
+use crate::generate::{Profile, Sort};
 use crate::log::records_of;
 use crate::sequence::mill::{Maker, Step};
 use crate::shrink::shrink;
@@ -21,7 +22,7 @@ pub(super) struct Search {
 
 impl Search {
     pub(super) fn new(seed: u64, logs: u64) -> Search {
-        let case = |number| Screen::case(profile_of(number), seed, number);
+        let case = |number| Screen::case(Profile::in_turn(number), seed, number);
         let mut maker = Maker::new(seed);
         let sequences = (0..ROUNDS).flat_map(|_| maker.round());
         Search {
@@ -35,19 +36,12 @@ impl Search {
         let is_found = |mistake: ScreenMistake| {
             let in_logs = mistake.shows_in_logs().then(|| self.look_in_logs(mistake));
             let in_calls = mistake.shows_in_calls().then(|| self.look_in_calls(mistake));
-            let places: Vec<_> = [in_logs, in_calls].into_iter().flatten().collect();
-            let text = |place: &Result<String, String>| match place {
-                Ok(found) => format!("found after {found}"),
-                Err(looked) => format!("NOT FOUND in {looked}"),
-            };
-            let words: Vec<String> = places.iter().map(text).collect();
-            println!("{:<64} {}", mistake.text(), words.join("; "));
-            places.iter().all(Result::is_ok)
+            is_found_in(mistake.text(), [in_logs, in_calls])
         };
         ScreenMistake::ALL.iter().filter(|&&mistake| is_found(mistake)).count()
     }
 
-    fn look_in_logs(&self, mistake: ScreenMistake) -> Result<String, String> {
+    fn look_in_logs(&self, mistake: ScreenMistake) -> Place {
         let shows = |(case, right): &(Case, String)| wrong_output(case, mistake) != *right;
         let Some(place) = self.cases.iter().position(shows) else {
             return Err(format!("{} logs", self.cases.len()));
@@ -61,7 +55,7 @@ impl Search {
         Ok(format!("{:>3} logs, {records:>2} records", place + 1))
     }
 
-    fn look_in_calls(&self, mistake: ScreenMistake) -> Result<String, String> {
+    fn look_in_calls(&self, mistake: ScreenMistake) -> Place {
         let shows = |step: &Step| {
             let mut lent = step.before;
             let reply = answer(step.call, &mut lent, mistake);

@@ -1,5 +1,5 @@
 //! Random sequences of calls on lent memory, resets among them: the board's here, the mill's in
-//! [`mill`].
+//! [`mill`]. A salvage keeps nothing from call to call; its calls are in [`salvage`].
 //!
 //! A sequence starts from any memory. Ill-formed memory stays as it is until a reset mends it.
 //! From then on the sequence goes on from the reset board, with the first records of a log, so
@@ -9,6 +9,7 @@ mod calls;
 mod clauses;
 mod memory;
 pub mod mill;
+pub mod salvage;
 
 use crate::abi::{Board, Call, Reply};
 use crate::board;

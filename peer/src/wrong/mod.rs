@@ -8,6 +8,7 @@ mod log;
 mod mistake;
 mod reads;
 mod reset;
+pub mod salvage;
 pub mod screen;
 mod time;
 mod writes;

@@ -1,8 +1,11 @@
 //! A stand-in for the first program's library: the second program's model behind the same C
-//! interface. With it `lent-check` and the benchmarks can be tried without the library, and
-//! have to pass.
+//! interface. With it `lent-check`, `mill-check`, `salvage-check` and the benchmarks can be tried without the
+//! libraries, and have to pass.
+
+use std::slice::{from_raw_parts, from_raw_parts_mut};
 
 use peer::abi::mill::{Mill, MillCall};
+use peer::abi::salvage::{salvage, Salvaged};
 use peer::abi::{Board, Call, Reply};
 
 fn answer(board: *mut Board, call: Call) -> Reply {
@@ -84,4 +87,25 @@ pub extern "C" fn nataqvoju_mill(
     d: u64,
 ) -> Reply {
     answer_mill(mill, MillCall { kind, numbers: [a, b, c, d] })
+}
+
+/// The records of a damaged log, and the list of what was skipped.
+///
+/// # Safety
+///
+/// None of the three is null, and each has as many elements as its length says, lent for the length of the
+/// call.
+#[no_mangle]
+pub unsafe extern "C" fn nataqvoju_salvage(
+    log: *const u8,
+    log_length: usize,
+    kept: *mut u8,
+    kept_length: usize,
+    list: *mut u64,
+    list_length: usize,
+) -> Salvaged {
+    let log = from_raw_parts(log, log_length);
+    let kept = from_raw_parts_mut(kept, kept_length);
+    let list = from_raw_parts_mut(list, list_length);
+    salvage(log, kept, list)
 }

@@ -10,6 +10,9 @@ use counts::Counts;
 use lent::check::{Tally, Wanted};
 use peer::sequence::mill::{Maker, Sequence};
 
+/// How many calls are compared, unless told otherwise.
+const CALLS: u64 = 2_000_000;
+
 const HELP: &str = "\
 mill-check [--seed N] [--calls N]
 
@@ -21,7 +24,7 @@ byte of the mill has to agree, and everything that is counted has to come. The l
 ";
 
 fn main() -> ExitCode {
-    lent::check::run("mill-check", HELP, check)
+    lent::check::run("mill-check", HELP, CALLS, check)
 }
 
 fn check(seed: u64, calls: u64) -> ExitCode {
