@@ -6,7 +6,7 @@ ghost use Rattle.lines.specs.Put.{over};
 ghost use Rattle.salvage_log.specs.Output.{listReport};
 
 // The report of so many stretches, which stand in the list, and of so many records, at the start of out.
-pub fn report(list: &[u64], stretches: usize, records: u64, out: &mut [u8]) -> usize
+pub(crate) fn report(list: &[u64], stretches: usize, records: u64, out: &mut [u8]) -> usize
     requires { ⌜ 2 * stretches ≤ length (now list) ⌝ }
     requires { ⌜ length (listReport (now list) stretches records) + 64 ≤ length (now out) ⌝ }
     ensures { λ r. ⌜ (r ≡ length (listReport (now (list .entry)) stretches records)) × (now (out .exit) ≡ over (listReport (now (list .entry)) stretches records) (now (out .entry))) ⌝ }
