@@ -16,7 +16,8 @@
  *   - a refused call leaves every byte of the board as it was, and gives value 0, counts 0 and no delivery;
  *   - memory that is not a well-formed board is answered with 5 by every call but a reset, which takes any memory;
  *   - every call turns a well-formed board into one, ends, and reads and writes no other memory of the caller's.
- * What is measured and not proved: how long a call takes (docs/BENCHMARKS.md). No call walks ticks or firings one by one.
+ * What is measured and not proved: how long a call takes (docs/BENCHMARKS.md). No call walks ticks or firings one by one,
+ * but for the plain engine's advance.
  * What is the caller's to see to:
  *   - `board` is not null, is aligned to 8 bytes and points to 288 bytes that may be read and written (by a read call: read);
  *   - nothing else writes those bytes during a call, and nothing else reads them but another read call: one caller at a time
@@ -30,6 +31,9 @@
  * The board's calls are in libnataqvoju.a. A monitor that shows whether the machine is paused lends a NataqvojuMill
  * instead, a board with its pause screen, to the one function of libnataqvoju_mill.a (below, "the mill"). What is said
  * above of a board holds of a mill and its 296 bytes too, but that a read of a mill has to be the only call on it.
+ *
+ * A test bench that wants a second opinion lends the same board to the plain engine, the one function of
+ * libnataqvoju_plain.a, which walks every tick (below, "the plain engine").
  *
  * A program that gets what can be got from a damaged log calls the one function of libnataqvoju_salvage.a, which needs
  * no board (below, "salvage").
@@ -305,6 +309,68 @@ static inline NataqvojuNumbers nataqvoju_mill_tell(NataqvojuMill *mill, uint64_t
 /* The work goes on after a pause. In another word than paused it is done and changes nothing. Refused with 5. */
 static inline NataqvojuNumbers nataqvoju_mill_resume(NataqvojuMill *mill) {
     return nataqvoju_mill(mill, NATAQVOJU_MILL_RESUME, 0, 0, 0, 0);
+}
+
+/* ---- the plain engine, of libnataqvoju_plain.a: the same board, done a second time in the most obvious way ---- */
+
+/* For a test bench that doesn't take the board's calls on trust. It makes each call on two boards, by the functions above
+ * and by nataqvoju_plain, and compares the numbers and the 288 bytes. Each is proved to do what one and the same
+ * definition says, for every call on any memory; they share no code. An advance walks every tick, which takes a while:
+ * docs/BENCHMARKS.md says how long. A long one can be made in portions, whose counts are added up. It is not for a
+ * monitor at work.
+ *
+ * The kinds are the first seven of the mill's. */
+enum {
+    NATAQVOJU_PLAIN_READ = 1,    /* a window, b width, c offset */
+    NATAQVOJU_PLAIN_WRITE = 2,   /* a window, b width, c offset, d value */
+    NATAQVOJU_PLAIN_WIRE = 3,    /* a pin, b level */
+    NATAQVOJU_PLAIN_END = 4,     /* a vector: its low eight bits */
+    NATAQVOJU_PLAIN_ADVANCE = 5, /* a ticks: its low 32 bits */
+    NATAQVOJU_PLAIN_DELIVER = 6,
+    NATAQVOJU_PLAIN_RESET = 7
+};
+
+/* Any call of the plain engine, by its kind; the functions below name them. Numbers that a kind doesn't name are
+ * ignored. A board that is not well formed gets 5 whatever the kind, but for a reset; then a kind that is not in the
+ * list gets 7. A refused call leaves every byte of the board as it was. */
+NataqvojuNumbers nataqvoju_plain(NataqvojuBoard *board, uint64_t kind, uint64_t a, uint64_t b, uint64_t c, uint64_t d);
+
+/* The reset state, whatever was there. Always done. */
+static inline NataqvojuNumbers nataqvoju_plain_reset(NataqvojuBoard *board) {
+    return nataqvoju_plain(board, NATAQVOJU_PLAIN_RESET, 0, 0, 0, 0);
+}
+
+/* A register read: value. Every byte of the board is as it was, but may be written on the way: unlike nataqvoju_read,
+ * this one takes no constant memory, and nothing else may be done with the board meanwhile. Refused with 5, 1, 2. */
+static inline NataqvojuNumbers nataqvoju_plain_read(NataqvojuBoard *board, uint64_t window, uint64_t width,
+                                                    uint64_t offset) {
+    return nataqvoju_plain(board, NATAQVOJU_PLAIN_READ, window, width, offset, 0);
+}
+
+/* A register write. Refused with 5, 1, 2, 4. */
+static inline NataqvojuNumbers nataqvoju_plain_write(NataqvojuBoard *board, uint64_t window, uint64_t width,
+                                                     uint64_t offset, uint64_t value) {
+    return nataqvoju_plain(board, NATAQVOJU_PLAIN_WRITE, window, width, offset, value);
+}
+
+/* The outside wire of a pin goes to a level. Refused with 5, 3, 4. */
+static inline NataqvojuNumbers nataqvoju_plain_wire(NataqvojuBoard *board, uint64_t pin, uint64_t level) {
+    return nataqvoju_plain(board, NATAQVOJU_PLAIN_WIRE, pin, level, 0, 0);
+}
+
+/* End of interrupt. Refused with 5. */
+static inline NataqvojuNumbers nataqvoju_plain_end(NataqvojuBoard *board, uint8_t vector) {
+    return nataqvoju_plain(board, NATAQVOJU_PLAIN_END, vector, 0, 0, 0);
+}
+
+/* So many ticks of the timer block, one after the other: fired. Refused with 5. */
+static inline NataqvojuNumbers nataqvoju_plain_advance(NataqvojuBoard *board, uint32_t ticks) {
+    return nataqvoju_plain(board, NATAQVOJU_PLAIN_ADVANCE, ticks, 0, 0, 0);
+}
+
+/* A delivery step: the lowest eligible pin, if there is one. Refused with 5. */
+static inline NataqvojuNumbers nataqvoju_plain_deliver(NataqvojuBoard *board) {
+    return nataqvoju_plain(board, NATAQVOJU_PLAIN_DELIVER, 0, 0, 0, 0);
 }
 
 /* ---- salvage, of libnataqvoju_salvage.a: what can be got from a damaged log ---- */

@@ -13,8 +13,8 @@ built_program() {
   rt check "$1" && [ -x "$program" ] && touch "$program"
 }
 
-# The libraries that a monitor links: the board's seven functions, the mill's one, and the salvage's.
-libraries=(nataqvoju nataqvoju_mill nataqvoju_salvage)
+# The libraries that a monitor links: the board's seven functions, the mill's one, the salvage's, and the plain engine's.
+libraries=(nataqvoju nataqvoju_mill nataqvoju_salvage nataqvoju_plain)
 
 # archive_of NAME: the path of a library
 archive_of() { echo "target/staticlib/lib$1.a"; }

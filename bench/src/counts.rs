@@ -8,13 +8,13 @@ use crate::rows::{self, Taker};
 pub fn print() -> Result<(), String> {
     let mut names = Names(Vec::new());
     rows::each(&mut names);
-    println!("| {:<50} | {:>7} | {:>7} | {:>5} |", "instructions", "library", "plain", "ratio");
-    println!("|:{:-<50}-|-{:->7}:|-{:->7}:|-{:->5}:|", "", "", "", "");
+    println!("| {:<55} | {:>8} | {:>8} | {:>5} |", "instructions", "library", "plain", "ratio");
+    println!("|:{:-<55}-|-{:->8}:|-{:->8}:|-{:->5}:|", "", "", "", "");
     for name in names.0 {
         let library = count("library", name)?;
         let plain = count("plain", name)?;
         let ratio = library as f64 / plain as f64;
-        println!("| {name:<50} | {library:>7} | {plain:>7} | {ratio:>5.2} |");
+        println!("| {name:<55} | {library:>8} | {plain:>8} | {ratio:>5.2} |");
     }
     Ok(())
 }

@@ -9,10 +9,12 @@ mod rows;
 mod table;
 mod time;
 
+use std::fmt::Debug;
 use std::io::Write;
 use std::process::ExitCode;
 
-use peer::abi::{Board, Call};
+use peer::abi::plain::PlainCall;
+use peer::abi::{Board, Call, Reply};
 use peer::board;
 use peer::generate::{self, random_board, Profile};
 use peer::log::{records_of, replay, Record, LONGEST};
@@ -30,13 +32,13 @@ bench limits
 bench counts
     Counts the instructions of the same calls with valgrind's callgrind: one table.
 bench once SIDE CALL
-    Makes one call of the table 1,000 times, a salvage 10 times, for a profiler. SIDE is library
-    or plain; CALL is the row's name.
+    Makes one call of the table 1,000 times, a salvage or an advance of the plain engine 10 times,
+    for a profiler. SIDE is library or plain; CALL is the row's name.
 bench replay FILE
     Replays a log with the plain calls; the table times the library's program beside it.
 
 NATAQVOJU_LIB_DIR, when this is built, names the folder that has libnataqvoju.a,
-libnataqvoju_mill.a and libnataqvoju_salvage.a;
+libnataqvoju_mill.a, libnataqvoju_salvage.a and libnataqvoju_plain.a;
 NATAQVOJU_REPLAY names the program that replays a log, and NATAQVOJU_PEER the second program
 (without it, the one that is built beside this package).
 Exit status: 0 all limits hold, 1 some don't, 2 something is missing.
@@ -90,26 +92,16 @@ fn limits() -> Result<bool, String> {
 
 /// Plain Rust and the library have to do the same as the model, or the times say nothing.
 fn check_plain() -> Result<(), String> {
-    let mut random = Random::new(7);
-    for number in 0..60 {
-        let mut board = if number % 2 == 0 {
-            Board::from(&board::Board::RESET)
-        } else {
-            Board::from(&random_board(&mut random))
-        };
-        let profile = Profile::ALL[number as usize % 4];
-        for record in records_of(&generate::log(profile, 7, number)).0 {
-            let call = Call::from(record);
-            let (mut plain, mut library) = (board, board);
-            let wanted = call.answer(&mut board);
-            if plain::call(&mut plain, call) != wanted || plain != board {
-                return Err(format!("plain Rust answers {call:?} wrongly"));
-            }
-            if lent::call(&mut library, call) != wanted || library != board {
-                return Err(format!("the library answers {call:?} wrongly; run lent-check"));
-            }
-        }
-    }
+    on_random_calls(u32::MAX, |before, call, after| {
+        agree("plain Rust", before, after, call, plain::call)?;
+        agree("the library", before, after, call, lent::call)
+    })?;
+    // These two walk, so the advances are short.
+    on_random_calls(1_000, |before, call, after| {
+        let call = PlainCall::new(call);
+        agree("plain Rust's plain engine", before, after, call, plain::plain)?;
+        agree("the library's plain engine", before, after, call, lent::plain)
+    })?;
     for step in mill::Maker::new(7).round().iter().flat_map(mill::Sequence::steps) {
         let (mut plain, mut library, call) = (step.before, step.before, step.call);
         if plain::mill(&mut plain, call) != step.reply || plain != step.after {
@@ -120,6 +112,47 @@ fn check_plain() -> Result<(), String> {
         }
     }
     check_salvages()
+}
+
+/// The calls of 60 random logs, with no longer advances than this, each with the board before it and
+/// what the model makes of it.
+fn on_random_calls(
+    most_ticks: u32,
+    check: impl Fn(Board, Call, (Reply, Board)) -> Result<(), String>,
+) -> Result<(), String> {
+    let mut random = Random::new(7);
+    for number in 0..60 {
+        let mut board = if number % 2 == 0 {
+            Board::from(&board::Board::RESET)
+        } else {
+            Board::from(&random_board(&mut random))
+        };
+        let profile = Profile::ALL[number as usize % 4];
+        for record in records_of(&generate::log(profile, 7, number)).0 {
+            let call = match Call::from(record) {
+                Call::Advance { ticks } => Call::Advance { ticks: ticks.min(most_ticks) },
+                other => other,
+            };
+            let before = board;
+            let reply = call.answer(&mut board);
+            check(before, call, (reply, board))?;
+        }
+    }
+    Ok(())
+}
+
+fn agree<Asked: Copy + Debug>(
+    side: &str,
+    mut board: Board,
+    after: (Reply, Board),
+    call: Asked,
+    make: impl Fn(&mut Board, Asked) -> Reply,
+) -> Result<(), String> {
+    if (make(&mut board, call), board) == after {
+        Ok(())
+    } else {
+        Err(format!("{side} answers {call:?} wrongly; lent-check says more of the library"))
+    }
 }
 
 fn check_salvages() -> Result<(), String> {

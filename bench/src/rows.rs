@@ -3,6 +3,7 @@
 use std::hint::black_box;
 
 use peer::abi::mill::{kind, Mill, MillCall, Screen};
+use peer::abi::plain::PlainCall;
 use peer::abi::{Board, Call};
 use peer::board;
 use peer::generate::Damage;
@@ -32,9 +33,18 @@ pub const SALVAGE_DAMAGE: &str = "salvage, 256 KiB, all damage";
 /// The salvage of a log with a bad byte behind each record.
 const SALVAGE_TORN: &str = "salvage, 256 KiB, torn";
 
+/// What the names of the plain engine's rows start with.
+pub const PLAIN: &str = "plain engine, ";
+/// Ticks that the plain engine walks with nothing due.
+pub const PLAIN_QUIET: &str = "plain engine, 100,000 ticks, nothing due";
+/// Ticks that it walks with the most to do at each.
+pub const PLAIN_FIRING: &str = "plain engine, 10,000 ticks, three timers firing at each";
+/// How many ticks the two have.
+pub const PLAIN_TICKS: [(&str, u32); 2] = [(PLAIN_QUIET, 100_000), (PLAIN_FIRING, 10_000)];
+
 /// How often a row's call is made for a profiler.
 pub fn times(name: &str) -> u32 {
-    if name.starts_with(SALVAGE) {
+    if name.starts_with(SALVAGE) || name.starts_with(PLAIN) {
         10
     } else {
         1_000
@@ -91,6 +101,7 @@ pub fn each(taker: &mut impl Taker) {
     of_the_board(taker);
     of_the_mill(taker);
     of_the_salvage(taker);
+    of_the_plain_engine(taker);
 }
 
 fn of_the_board(taker: &mut impl Taker) {
@@ -172,6 +183,23 @@ fn of_the_salvage(taker: &mut impl Taker) {
             },
             |Lending { log, kept, list, .. }| {
                 black_box(plain::salvage(black_box(log), kept, list));
+            },
+        );
+    }
+}
+
+fn of_the_plain_engine(taker: &mut impl Taker) {
+    for ((name, ticks), board) in PLAIN_TICKS.into_iter().zip([scene(), busy()]) {
+        let call = PlainCall::new(Call::Advance { ticks });
+        taker.take(
+            name,
+            &board,
+            |_| {},
+            |board| {
+                black_box(lent::plain(board, black_box(call)));
+            },
+            |board| {
+                black_box(plain::plain(board, black_box(call)));
             },
         );
     }

@@ -1,7 +1,7 @@
 //! The table, and the limits that are read off it.
 
 use crate::rows::{Taker, ADVANCE_BUSY, ADVANCE_IDLE, ADVANCE_ONE};
-use crate::rows::{MILL, SALVAGE, SALVAGE_DAMAGE, SALVAGE_SOUND};
+use crate::rows::{MILL, PLAIN, PLAIN_TICKS, SALVAGE, SALVAGE_DAMAGE, SALVAGE_SOUND};
 use crate::time::{self, Pair};
 
 /// The rows so far, printed as they come.
@@ -41,23 +41,37 @@ impl Table {
         println!("| {name:<56} | {library:>11.1} | {plain:>11.1} | {:>5.2} |", pair.ratio());
     }
 
-    fn library(&self, name: &str) -> f64 {
+    fn pair(&self, name: &str) -> Pair {
         let row = self.calls.iter().find(|(other, _)| *other == name);
-        row.expect("the row was timed").1.library
+        row.expect("the row was timed").1
     }
 
     /// Says which limits hold; answers whether all do.
     pub fn check_limits(&self) -> bool {
         println!();
-        let [idle, busy] = advance_limits(|name| self.library(name));
-        let of_the_board = |name: &str| !name.starts_with(MILL) && !name.starts_with(SALVAGE);
+        self.print_ticks();
+        let [idle, busy] = advance_limits(|name| self.pair(name).library);
+        let of_the_board =
+            |name: &str| ![MILL, SALVAGE, PLAIN].iter().any(|of| name.starts_with(of));
         let (name, ratio) = self.slowest(of_the_board);
         let plain = limit(&format!("call slowest against plain Rust ({name})"), ratio, 2.0);
         let (name, ratio) = self.slowest(|name| [SALVAGE_SOUND, SALVAGE_DAMAGE].contains(&name));
         let salvage = limit(&format!("slower salvage against plain Rust ({name})"), ratio, 2.0);
+        let (name, ratio) = self.slowest(|name| name.starts_with(PLAIN));
+        let engine = limit(&format!("slower plain engine against plain Rust ({name})"), ratio, 2.0);
         let (name, ratio) = self.slowest(|name| name.starts_with(MILL));
         println!("no limit: call of the mill slowest against plain Rust ({name}): {ratio:.2}");
-        sum_up(&[idle, busy, plain, salvage])
+        sum_up(&[idle, busy, plain, salvage, engine])
+    }
+
+    /// What a tick of the plain engine takes, and a full advance at that pace.
+    fn print_ticks(&self) {
+        for (name, ticks) in PLAIN_TICKS {
+            let Pair { library, plain } = self.pair(name);
+            let (library, plain) = (library / f64::from(ticks), plain / f64::from(ticks));
+            let full = library * f64::from(u32::MAX) / 1e9;
+            println!("{name}: {library:.2} ns a tick, plain Rust {plain:.2}; 4,294,967,295 ticks: {full:.0} s");
+        }
     }
 
     /// The slowest against plain Rust among some of the rows.

@@ -1,4 +1,4 @@
-// Links the three libraries that `./nataqvoju library` makes, from the folder that NATAQVOJU_LIB_DIR names.
+// Links the four libraries that `./nataqvoju library` makes, from the folder that NATAQVOJU_LIB_DIR names.
 use std::env;
 use std::path::Path;
 
@@ -8,7 +8,7 @@ fn main() {
         panic!("set NATAQVOJU_LIB_DIR to the folder of libnataqvoju.a (target/staticlib after `./nataqvoju library`)")
     });
     println!("cargo:rustc-link-search=native={dir}");
-    for library in ["nataqvoju", "nataqvoju_mill", "nataqvoju_salvage"] {
+    for library in ["nataqvoju", "nataqvoju_mill", "nataqvoju_salvage", "nataqvoju_plain"] {
         let archive = Path::new(&dir).join(format!("lib{library}.a"));
         if !archive.is_file() {
             panic!(

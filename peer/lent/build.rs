@@ -4,7 +4,8 @@
 use std::path::Path;
 
 /// The first one has to be there.
-const LIBRARIES: [&str; 3] = ["nataqvoju", "nataqvoju_mill", "nataqvoju_salvage"];
+const LIBRARIES: [&str; 4] =
+    ["nataqvoju", "nataqvoju_mill", "nataqvoju_plain", "nataqvoju_salvage"];
 
 fn main() {
     println!("cargo:rerun-if-env-changed=NATAQVOJU_LIB_DIR");

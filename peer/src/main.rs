@@ -6,7 +6,7 @@ use std::path::PathBuf;
 use std::process::ExitCode;
 use std::time::SystemTime;
 
-use peer::fuzz::{self, FIXED_SEED, GATE_LOGS, LONG_LOGS};
+use peer::fuzz::{self, Subject, FIXED_SEED};
 use peer::log::replay_from_reset;
 use peer::mutants;
 use peer::salvage::salvage;
@@ -27,14 +27,17 @@ The second, independent model of the board.
       new file OUT, and lists what was skipped. A file that is there already isn't touched.
 
   peer fuzz --replay PATH [--seed N] [--logs N] [--profile NAME] [--long]
+  peer fuzz --twin PATH [--seed N] [--logs N] [--profile NAME] [--long]
   peer fuzz --screen PATH [--seed N] [--logs N] [--profile NAME] [--long]
   peer fuzz --salvage PATH [--seed N] [--logs N] [--profile NAME] [--long]
       Makes random logs, runs the program at PATH on each and compares its output with this
-      program's, byte for byte; --screen gives it a pin before the log, and of --salvage the file that
-      it makes is compared too. The first difference is shrunk and shown. Profiles: valid, adversarial,
+      program's, byte for byte; --twin has fewer logs, with short advances, since the program walks
+      every tick; --screen gives it a pin before the log, and of --salvage the file that it makes is
+      compared too. The first difference is shrunk and shown. Profiles: valid, adversarial,
       timers, controller, pause, torn, and of --salvage sound, cut, flipped, inserted, spliced, noise;
       all in turn without --profile. A profile of which enough logs were made has to reach every event
-      that it is meant to reach. --long takes a fresh seed and many logs.
+      that it is meant to reach; of --twin the profiles may do it together. --long takes a fresh seed
+      and many logs.
 
   peer mutants [--seed N] [--logs N]
       Compares wrong models with the right one; every mistake has to be found.
@@ -125,34 +128,49 @@ fn read_input() -> std::io::Result<Vec<u8>> {
 
 fn fuzz_command(words: &[&str]) -> Result<bool, String> {
     let mut program = None;
-    let (mut seed, mut logs, mut profile, mut long) = (None, None, None, false);
+    let mut choices = Choices::default();
     let mut words = words.iter();
     while let Some(&word) = words.next() {
         match word {
-            "--replay" | "--screen" | "--salvage" if program.is_none() => {
+            "--replay" | "--twin" | "--screen" | "--salvage" if program.is_none() => {
                 program = Some((word, PathBuf::from(value_of(word, words.next())?)));
             }
-            "--seed" => seed = Some(number_of(word, words.next())?),
-            "--logs" => logs = Some(number_of(word, words.next())?),
-            "--profile" => profile = Some(value_of(word, words.next())?.to_string()),
-            "--long" => long = true,
+            "--seed" => choices.seed = Some(number_of(word, words.next())?),
+            "--logs" => choices.logs = Some(number_of(word, words.next())?),
+            "--profile" => choices.profile = Some(value_of(word, words.next())?.to_string()),
+            "--long" => choices.long = true,
             _ => return Err(unknown_option(word)),
         }
     }
-    let (usual_seed, usual_logs) =
-        if long { (fresh_seed(), LONG_LOGS) } else { (FIXED_SEED, GATE_LOGS) };
-    let (which, program) =
-        program.ok_or("which program? Say --replay PATH, --screen PATH or --salvage PATH")?;
-    let options = fuzz::Options {
-        program,
-        seed: seed.unwrap_or(usual_seed),
-        logs: logs.unwrap_or(usual_logs),
-        profile,
-    };
+    let (which, program) = program
+        .ok_or("which program? Say --replay PATH, --twin PATH, --screen PATH or --salvage PATH")?;
     match which {
-        "--replay" => fuzz::run::<fuzz::Replay>(&options),
-        "--screen" => fuzz::run::<fuzz::Screen>(&options),
-        _ => fuzz::run::<fuzz::Salvage>(&options),
+        "--replay" => choices.run::<fuzz::Replay>(program),
+        "--twin" => choices.run::<fuzz::Twin>(program),
+        "--screen" => choices.run::<fuzz::Screen>(program),
+        _ => choices.run::<fuzz::Salvage>(program),
+    }
+}
+
+/// What the command line says of a comparison, whichever program it is with.
+#[derive(Default)]
+struct Choices {
+    seed: Option<u64>,
+    logs: Option<u64>,
+    profile: Option<String>,
+    long: bool,
+}
+
+impl Choices {
+    fn run<S: Subject>(self, program: PathBuf) -> Result<bool, String> {
+        let (usual_seed, usual_logs) =
+            if self.long { (fresh_seed(), S::LONG_LOGS) } else { (FIXED_SEED, S::GATE_LOGS) };
+        fuzz::run::<S>(&fuzz::Options {
+            program,
+            seed: self.seed.unwrap_or(usual_seed),
+            logs: self.logs.unwrap_or(usual_logs),
+            profile: self.profile,
+        })
     }
 }
 

@@ -22,9 +22,7 @@ fn put_skipped(size: u64, place: u64, out: &mut [u8], at: usize) -> usize
     ensures { λ r. ⌜ Put (skippedLine size place) (now (out .entry)) at (now (out .exit)) r ⌝ }
     ensures { λ r. ⌜ r ≤ at + 64 ⌝ }
 {
-    let p = text::put_label(b"skipped ", size, out, at);
-    let q = text::put_label(b" at ", place, out, p);
-    text::put_byte(10, out, q)
+    text::put_placed(b"skipped ", size, place, out, at)
 }
 
 // The last line of a salvage's report.

@@ -15,6 +15,7 @@ pub use decimal::number_at;
 pub use input::read_input;
 pub use output::names_file;
 pub use output::print;
+pub use output::told;
 pub use output::usage;
 pub use output::write_new;
 pub use transfer::Transfer;

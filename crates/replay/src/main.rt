@@ -8,7 +8,7 @@ ghost use mathlib.Core.Path.{_≡_};
 ghost use Prim.Native.Nat.{_≤_};
 ghost use lib.ListN.{length};
 ghost use Rattle.lines.specs.Put.{over};
-ghost use Rattle.replay.specs.Output.{outputOf};
+ghost use Rattle.log.specs.Output.{outputOf};
 
 // 64 bytes for each of the 21,845 records that a log of 65,536 bytes can hold, and for the last line: the bound that is proved.
 // Counted by hand, no log prints more than 928,244 bytes. A delivery's line is the longest for its bytes of log, 38 bytes and the

@@ -19,16 +19,19 @@
 //! ```
 //!
 //! A [`Mill`] is a board with its pause screen, 296 bytes: for a monitor that shows whether the machine is paused.
-//! [`salvage`] gets what can be got from a damaged log, and needs no board.
+//! [`salvage`] gets what can be got from a damaged log, and needs no board. A [`Plain`] is a board that a second engine
+//! serves, tick by tick: for a test bench that compares the two.
 //!
 //! What is proved: for every argument and every byte pattern of the board or the mill, what it is after a call and the answer
 //! are those of the model's own call by value. A refused call leaves every byte as it was.
 #![warn(missing_docs)]
 
 mod mill;
+mod plain;
 mod salvage;
 
 pub use mill::{Mill, Screen, Word};
+pub use plain::Plain;
 pub use salvage::{salvage, Salvaged};
 
 use std::fmt;

@@ -3,6 +3,7 @@
 pub mod check;
 
 use peer::abi::mill::{Mill, MillCall};
+use peer::abi::plain::PlainCall;
 use peer::abi::salvage::Salvaged;
 use peer::abi::{Board, Call, Reply};
 
@@ -25,6 +26,14 @@ mod entry {
         pub fn nataqvoju_advance(board: *mut Board, ticks: u32) -> Reply;
         pub fn nataqvoju_deliver(board: *mut Board) -> Reply;
         pub fn nataqvoju_mill(mill: *mut Mill, kind: u64, a: u64, b: u64, c: u64, d: u64) -> Reply;
+        pub fn nataqvoju_plain(
+            board: *mut Board,
+            kind: u64,
+            p: u64,
+            q: u64,
+            r: u64,
+            s: u64,
+        ) -> Reply;
         pub fn nataqvoju_salvage(
             log: *const u8,
             log_length: usize,
@@ -90,6 +99,11 @@ pub fn call(board: &mut Board, call: Call) -> Reply {
 /// Makes any call of the mill.
 pub fn mill(mill: &mut Mill, MillCall { kind, numbers: [a, b, c, d] }: MillCall) -> Reply {
     unsafe { entry::nataqvoju_mill(mill, kind, a, b, c, d) }
+}
+
+/// Makes any call of the plain engine.
+pub fn plain(board: &mut Board, PlainCall { kind, numbers: [p, q, r, s] }: PlainCall) -> Reply {
+    unsafe { entry::nataqvoju_plain(board, kind, p, q, r, s) }
 }
 
 /// Salvages a log. The log may be written, so that a call that does it shows.

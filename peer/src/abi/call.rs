@@ -12,7 +12,7 @@ use crate::timers::TIMERS;
 pub struct Reply {
     /// A done read's value, else 0.
     pub value: u64,
-    /// The paper's number: 0 to 5; of a mill also 7 and 14.
+    /// The paper's number: 0 to 5; of an entry over a kind also 7, of a mill also 14.
     pub number: u32,
     /// 1 exactly when a pin was delivered.
     pub delivered: u32,
@@ -48,7 +48,49 @@ pub enum Call {
     Deliver,
 }
 
+/// The kinds of the board's calls, for the entries that take one.
+#[allow(missing_docs)] // the names of the calls
+pub mod kind {
+    pub const READ: u64 = 1;
+    pub const WRITE: u64 = 2;
+    pub const WIRE: u64 = 3;
+    pub const END: u64 = 4;
+    pub const ADVANCE: u64 = 5;
+    pub const DELIVER: u64 = 6;
+    pub const RESET: u64 = 7;
+}
+
 impl Call {
+    /// Its kind and four numbers, with nothing in those that it ignores.
+    pub fn as_numbers(self) -> (u64, [u64; 4]) {
+        match self {
+            Call::Read { window, width, offset } => (kind::READ, [window, width, offset, 0]),
+            Call::Write { window, width, offset, value } => {
+                (kind::WRITE, [window, width, offset, value])
+            }
+            Call::Wire { pin, level } => (kind::WIRE, [pin, level, 0, 0]),
+            Call::End { vector } => (kind::END, [vector.into(), 0, 0, 0]),
+            Call::Advance { ticks } => (kind::ADVANCE, [ticks.into(), 0, 0, 0]),
+            Call::Deliver => (kind::DELIVER, [0; 4]),
+            Call::Reset => (kind::RESET, [0; 4]),
+        }
+    }
+
+    /// What a kind and four numbers ask for, unless the kind is none of the board's. A vector is the low
+    /// eight bits of its number, ticks the low 32.
+    pub fn from_numbers(kind: u64, [a, b, c, d]: [u64; 4]) -> Option<Call> {
+        Some(match kind {
+            kind::READ => Call::Read { window: a, width: b, offset: c },
+            kind::WRITE => Call::Write { window: a, width: b, offset: c, value: d },
+            kind::WIRE => Call::Wire { pin: a, level: b },
+            kind::END => Call::End { vector: a as u8 },
+            kind::ADVANCE => Call::Advance { ticks: a as u32 },
+            kind::DELIVER => Call::Deliver,
+            kind::RESET => Call::Reset,
+            _ => return None,
+        })
+    }
+
     /// Makes the call as the model answers it.
     pub fn answer(self, lent: &mut Board) -> Reply {
         let Some(mut model) = lent.model() else { return self.answer_memory(lent) };

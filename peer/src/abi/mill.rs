@@ -31,16 +31,10 @@ pub struct Mill {
 
 const _: () = assert!(size_of::<Screen>() == 8 && size_of::<Mill>() == 296);
 
-/// The kinds of calls.
+/// The kinds of calls: the board's and two further ones.
 #[allow(missing_docs)] // the names of the calls
 pub mod kind {
-    pub const READ: u64 = 1;
-    pub const WRITE: u64 = 2;
-    pub const WIRE: u64 = 3;
-    pub const END: u64 = 4;
-    pub const ADVANCE: u64 = 5;
-    pub const DELIVER: u64 = 6;
-    pub const RESET: u64 = 7;
+    pub use crate::abi::kind::*;
     pub const TELL: u64 = 8;
     pub const RESUME: u64 = 9;
 }
@@ -71,17 +65,7 @@ impl MillCall {
     /// The call that asks for this, with nothing in the numbers that it ignores.
     pub fn new(asked: Asked) -> MillCall {
         let (kind, numbers) = match asked {
-            Asked::Board(Call::Read { window, width, offset }) => {
-                (kind::READ, [window, width, offset, 0])
-            }
-            Asked::Board(Call::Write { window, width, offset, value }) => {
-                (kind::WRITE, [window, width, offset, value])
-            }
-            Asked::Board(Call::Wire { pin, level }) => (kind::WIRE, [pin, level, 0, 0]),
-            Asked::Board(Call::End { vector }) => (kind::END, [vector.into(), 0, 0, 0]),
-            Asked::Board(Call::Advance { ticks }) => (kind::ADVANCE, [ticks.into(), 0, 0, 0]),
-            Asked::Board(Call::Deliver) => (kind::DELIVER, [0; 4]),
-            Asked::Board(Call::Reset) => (kind::RESET, [0; 4]),
+            Asked::Board(call) => call.as_numbers(),
             Asked::Tell(pin) => (kind::TELL, [pin, 0, 0, 0]),
             Asked::Resume => (kind::RESUME, [0; 4]),
             Asked::Unknown => (0, [0; 4]),
@@ -89,21 +73,13 @@ impl MillCall {
         MillCall { kind, numbers }
     }
 
-    /// What the numbers ask for. A vector is the low eight bits of its number, ticks the low 32.
+    /// What the numbers ask for.
     pub fn asked(self) -> Asked {
-        let [a, b, c, d] = self.numbers;
-        Asked::Board(match self.kind {
-            kind::READ => Call::Read { window: a, width: b, offset: c },
-            kind::WRITE => Call::Write { window: a, width: b, offset: c, value: d },
-            kind::WIRE => Call::Wire { pin: a, level: b },
-            kind::END => Call::End { vector: a as u8 },
-            kind::ADVANCE => Call::Advance { ticks: a as u32 },
-            kind::DELIVER => Call::Deliver,
-            kind::RESET => Call::Reset,
-            kind::TELL => return Asked::Tell(a),
-            kind::RESUME => return Asked::Resume,
-            _ => return Asked::Unknown,
-        })
+        match self.kind {
+            kind::TELL => Asked::Tell(self.numbers[0]),
+            kind::RESUME => Asked::Resume,
+            _ => Call::from_numbers(self.kind, self.numbers).map_or(Asked::Unknown, Asked::Board),
+        }
     }
 
     /// It is a reset, which takes any memory.

@@ -1,5 +1,5 @@
 //! The lent entries' memory layout, and what each of their calls has to answer: the board's here,
-//! the mill's in [`mill`], the salvage's in [`mod@salvage`].
+//! the mill's in [`mill`], the plain engine's in [`plain`], the salvage's in [`mod@salvage`].
 //!
 //! No struct has padding, so equal fields are equal bytes. Fields are as wide as the C interface
 //! has them; what doesn't fit the model's types isn't well formed.
@@ -7,13 +7,14 @@
 mod call;
 pub mod mill;
 mod model;
+pub mod plain;
 pub mod salvage;
 
 use crate::pin::PINS;
 use crate::timers::TIMERS;
 
 pub(crate) use call::refused;
-pub use call::{Call, Reply};
+pub use call::{kind, Call, Reply};
 
 /// The redirection entries by columns, with pin levels and held edges.
 #[repr(C)]

@@ -66,6 +66,13 @@ events! {
     FullIdle: "full advance with nothing due", "vat";
     FullEveryTick: "full advance with a firing at every tick", "vt";
     ManyFirings: "several firings of a timer in one advance", "vat";
+    ThousandTicks: "advance by 1,000 ticks or more with firings", "vat";
+    HundredFirings: "100 firings or more of a timer in one advance", "vat";
+    ManyThousandFirings: "100,000 firings or more of a timer in one advance", "t";
+    Timer0: "timer 0 fires", "vat";
+    Timer1: "timer 1 fires", "vat";
+    Timer2: "timer 2 fires", "vat";
+    AllTimers: "all three timers fire in one advance", "vat";
     EdgeByEnable: "edge by enabling the block", "vt";
     EdgeByDisable: "edge by disabling the block, active low", "vt";
     EdgeByStatus: "edge by clearing a status, active low", "vt";
@@ -177,6 +184,13 @@ events! {
     EmptyLog: "empty log", "x";
     Longest: "log of 65,536 bytes", "x";
     TooLong: "too long", "x";
+}
+
+impl Event {
+    /// Only an advance that is too long to be walked reaches it.
+    pub fn is_of_long_advances(self) -> bool {
+        matches!(self, Event::FullTurn | Event::FullFires | Event::FullIdle | Event::FullEveryTick)
+    }
 }
 
 impl Counts<Event> {

@@ -68,6 +68,14 @@ impl Watcher<'_> {
         let fired = timers.each_mut().map(|timer| timer.fire_over(counter, u64::from(ticks)));
         let counts = &mut *self.counts;
         counts.note_if(fired.iter().any(|&count| count > 1), Event::ManyFirings);
+        counts.note_if(ticks >= 1_000 && fired != [0; TIMERS], Event::ThousandTicks);
+        counts.note_if(fired.iter().any(|&count| count >= 100), Event::HundredFirings);
+        let thousands = fired.iter().any(|&count| count >= 100_000);
+        counts.note_if(thousands, Event::ManyThousandFirings);
+        for (count, timer) in fired.into_iter().zip([Event::Timer0, Event::Timer1, Event::Timer2]) {
+            counts.note_if(count > 0, timer);
+        }
+        counts.note_if(!fired.contains(&0), Event::AllTimers);
         let due = before.timers.timer.map(|timer| timer.due_in(counter));
         counts.note_if(due.contains(&u128::from(ticks)), Event::FirstAtEnd);
         counts.note_if(due.contains(&(u128::from(ticks) + 1)), Event::FirstPastEnd);

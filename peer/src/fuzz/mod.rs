@@ -11,16 +11,10 @@ use crate::events::{Counts, Listed};
 use crate::generate::Sort;
 use other::{Other, Outcome, Way};
 
-pub use subject::{Case, Replay, Salvage, Screen, SortOf, Subject};
+pub use subject::{Case, Replay, Salvage, Screen, SortOf, Subject, Twin};
 
 /// The seed that the gate uses.
 pub const FIXED_SEED: u64 = 0x7EB5;
-/// How many logs the gate compares.
-pub const GATE_LOGS: u64 = 3_000;
-/// How many logs a long run compares, unless told otherwise.
-pub const LONG_LOGS: u64 = 200_000;
-/// From so many logs of a sort on, it has to reach every event it is meant to reach.
-const ENOUGH_LOGS: u64 = 400;
 /// The effort to shrink a difference.
 const SHRINK_EFFORT: usize = 8_000_000;
 
@@ -49,14 +43,14 @@ pub fn run<S: Subject>(options: &Options) -> Result<bool, String> {
             println!("{passed} passed, 1 failed");
             return Ok(false);
         }
-        if options.logs > GATE_LOGS && number % 10_000 == 9_999 {
+        if options.logs > S::GATE_LOGS && number % 10_000 == 9_999 {
             println!("{} logs compared", number + 1);
         }
     }
     comparison.print_events();
     let missing = comparison.missing();
-    for (sort, event) in &missing {
-        println!("profile {} never reached: {}", sort.name(), event.text());
+    for (profiles, event) in &missing {
+        println!("profile {profiles} never reached: {}", event.text());
     }
     comparison.print_totals(start.elapsed());
     println!("{passed} passed, {} failed", missing.len());
@@ -68,6 +62,8 @@ struct Tally<S: Subject> {
     sort: SortOf<S>,
     logs: u64,
     records: usize,
+    /// Ticks that the program walks one by one.
+    ticks: u64,
     counts: Counts<S::Event>,
 }
 
@@ -83,7 +79,7 @@ impl<'options, S: Subject> Comparison<'options, S> {
             Some(name) => vec![sort_named::<SortOf<S>>(name)?],
             None => SortOf::<S>::ALL.to_vec(),
         };
-        let new = |sort| Tally { sort, logs: 0, records: 0, counts: Counts::new() };
+        let new = |sort| Tally { sort, logs: 0, records: 0, ticks: 0, counts: Counts::new() };
         let tallies = sorts.into_iter().map(new).collect();
         Ok(Comparison { options, other: Other::new(&options.program)?, tallies })
     }
@@ -95,6 +91,7 @@ impl<'options, S: Subject> Comparison<'options, S> {
         let case = S::case(tally.sort, self.options.seed, number);
         tally.logs += 1;
         tally.records += S::watch(&mut tally.counts, &case);
+        tally.ticks += S::walked(&case);
         let way = match number % 8 {
             2 => Way::StandardInput,
             6 => Way::Pipe,
@@ -119,16 +116,12 @@ impl<'options, S: Subject> Comparison<'options, S> {
         show::difference(&short, &Outcome::own::<S>(&short), &other, &self.options.program)
     }
 
-    fn missing(&self) -> Vec<(SortOf<S>, S::Event)> {
-        let mut missing = Vec::new();
-        for tally in self.tallies.iter().filter(|tally| tally.logs >= ENOUGH_LOGS) {
-            for &event in S::Event::ALL {
-                if event.is_wanted_in(tally.sort) && tally.counts.of(event) == 0 {
-                    missing.push((tally.sort, event));
-                }
-            }
-        }
-        missing
+    /// The events that enough logs were meant to reach and didn't, with the sorts of these logs.
+    fn missing(&self) -> Vec<(String, S::Event)> {
+        let groups = self.tallies.chunks(if S::TOGETHER { self.tallies.len() } else { 1 });
+        groups
+            .flat_map(|group| S::Event::ALL.iter().filter_map(|&event| lack(group, event)))
+            .collect()
     }
 
     /// Events by sort of logs; a star marks what the sort is meant to reach.
@@ -138,7 +131,7 @@ impl<'options, S: Subject> Comparison<'options, S> {
         println!("{:<58}{heads}", "event (* is to be reached)");
         for &event in S::Event::ALL {
             let cell = |tally: &Tally<S>| {
-                let star = if event.is_wanted_in(tally.sort) { "*" } else { " " };
+                let star = if S::wants(event, tally.sort) { "*" } else { " " };
                 format!("{:>12}{star}", tally.counts.of(event))
             };
             let cells: String = self.tallies.iter().map(cell).collect();
@@ -152,8 +145,19 @@ impl<'options, S: Subject> Comparison<'options, S> {
         for tally in &self.tallies {
             println!("{}: {} logs, {} records", tally.sort.name(), tally.logs, tally.records);
         }
-        println!("{logs} logs, {records} records in {:.1} s", time.as_secs_f64());
+        let ticks: u64 = self.tallies.iter().map(|tally| tally.ticks).sum();
+        let walked = if ticks == 0 { String::new() } else { format!(", {ticks} ticks walked") };
+        println!("{logs} logs, {records} records{walked} in {:.1} s", time.as_secs_f64());
     }
+}
+
+/// The event, with the sorts that were meant to reach it, if they made enough logs and none did.
+fn lack<S: Subject>(group: &[Tally<S>], event: S::Event) -> Option<(String, S::Event)> {
+    let meant: Vec<_> = group.iter().filter(|tally| S::wants(event, tally.sort)).collect();
+    let logs: u64 = meant.iter().map(|tally| tally.logs).sum();
+    let reached = meant.iter().any(|tally| tally.counts.of(event) > 0);
+    let names: Vec<&str> = meant.iter().map(|tally| tally.sort.name()).collect();
+    (logs >= S::ENOUGH_LOGS && !reached).then(|| (names.join(", "), event))
 }
 
 fn sort_named<S: Sort>(name: &str) -> Result<S, String> {

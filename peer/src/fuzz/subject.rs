@@ -1,10 +1,11 @@
-//! What is compared: the program `replay`, `screen` or `salvage_log`.
+//! What is compared: the program `replay`, `twin`, `screen` or `salvage_log`.
 
 use std::ffi::OsString;
 use std::path::Path;
 
 use crate::events::{Counts, Event, Listed, SalvageEvent, ScreenEvent};
-use crate::generate::{damaged_log, keyed_log, log, Damage, Log, Profile};
+use crate::generate::{damaged_log, keyed_log, log, short_log, ticks_of, walk_log};
+use crate::generate::{Damage, Log, Profile};
 use crate::log::{replay_from_reset, LONGEST};
 use crate::random::Random;
 use crate::salvage::salvage;
@@ -35,6 +36,15 @@ pub trait Subject {
     /// What is counted in its cases.
     type Event: Listed;
 
+    /// How many logs the gate compares.
+    const GATE_LOGS: u64 = 3_000;
+    /// How many logs a long run compares, unless told otherwise.
+    const LONG_LOGS: u64 = 200_000;
+    /// From so many logs on, they have to reach every event that they are meant to reach.
+    const ENOUGH_LOGS: u64 = 400;
+    /// The sorts of logs that are meant to reach an event may do it together; else each has to.
+    const TOGETHER: bool = false;
+
     /// The case with this number: the seed and the number decide it.
     fn case(sort: SortOf<Self>, seed: u64, number: u64) -> Case;
 
@@ -52,6 +62,16 @@ pub trait Subject {
 
     /// Counts what happens; answers the number of records.
     fn watch(counts: &mut Counts<Self::Event>, case: &Case) -> usize;
+
+    /// The ticks that the program has to walk one by one, if it does.
+    fn walked(_: &Case) -> u64 {
+        0
+    }
+
+    /// The sort of logs is meant to reach the event.
+    fn wants(event: Self::Event, sort: SortOf<Self>) -> bool {
+        event.is_wanted_in(sort)
+    }
 
     /// A short log that still differs.
     fn shrink(log: &[u8], effort: usize, differs: impl FnMut(&[u8]) -> bool) -> Vec<u8> {
@@ -79,6 +99,46 @@ impl Subject for Replay {
 
     fn watch(counts: &mut Counts<Event>, case: &Case) -> usize {
         counts.watch(&case.log)
+    }
+}
+
+/// `twin [FILE]`, which walks every tick beside a replay, and prints what that prints. Under an emulator
+/// it takes its time, so there are fewer logs, and their advances are short.
+pub struct Twin;
+
+impl Subject for Twin {
+    type Event = Event;
+
+    const GATE_LOGS: u64 = 720;
+    const LONG_LOGS: u64 = 20_000;
+    const ENOUGH_LOGS: u64 = 100;
+    const TOGETHER: bool = true;
+
+    fn case(profile: Profile, seed: u64, number: u64) -> Case {
+        // Chance makes a long walk too rarely: one comes whatever the seed.
+        let is_walk = profile == Profile::Timers && number < Profile::ALL.len() as u64;
+        let log = if is_walk { walk_log(profile, seed) } else { short_log(profile, seed, number) };
+        Case { pin: None, log }
+    }
+
+    fn arguments(case: &Case, log: Option<&Path>, out: &Path) -> Vec<OsString> {
+        Replay::arguments(case, log, out)
+    }
+
+    fn output(case: &Case) -> String {
+        Replay::output(case)
+    }
+
+    fn watch(counts: &mut Counts<Event>, case: &Case) -> usize {
+        Replay::watch(counts, case)
+    }
+
+    fn walked(case: &Case) -> u64 {
+        ticks_of(&case.log)
+    }
+
+    fn wants(event: Event, profile: Profile) -> bool {
+        event.is_wanted_in(profile) && !event.is_of_long_advances()
     }
 }
 

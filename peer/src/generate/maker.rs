@@ -2,6 +2,7 @@
 //! depend on both.
 
 use super::choices::{self, any_pin, landmark, near, period};
+use super::{Pace, MOST_TICKS};
 use crate::controller::{DATA, INDEX};
 use crate::log::Record;
 use crate::mill::{Mill, MillCalls};
@@ -13,6 +14,9 @@ use crate::timers::TIMERS;
 /// Makes one log.
 pub(super) struct Maker {
     pub(super) random: Random,
+    pace: Pace,
+    /// So many ticks its advances may still take.
+    ticks_left: u64,
     /// Its pause key is the first pin.
     pub(super) mill: Mill,
     pub(super) log: Vec<u8>,
@@ -22,7 +26,7 @@ pub(super) struct Maker {
 }
 
 impl Maker {
-    pub(super) fn new(seed: u64) -> Maker {
+    pub(super) fn new(pace: Pace, seed: u64) -> Maker {
         let mut random = Random::new(seed);
         let pins: Vec<u8> = (0..1 + random.below(4))
             .map(
@@ -32,10 +36,19 @@ impl Maker {
         let vectors = (0..3).map(|_| random.any() as u8).collect();
         let mut mill = Mill::RESET;
         mill.tell(pins[0].into()).expect("every entry is an edge entry after a reset");
-        Maker { random, mill, log: Vec::new(), records: 0, pins, vectors }
+        let ticks_left = match pace {
+            Pace::Any => u64::MAX,
+            Pace::Short => MOST_TICKS,
+        };
+        Maker { random, pace, ticks_left, mill, log: Vec::new(), records: 0, pins, vectors }
     }
 
-    pub(super) fn push(&mut self, record: Record) {
+    /// Adds a record; an advance takes at most the ticks that are left.
+    pub(super) fn push(&mut self, mut record: Record) {
+        if let Record::Advance { ticks } = &mut record {
+            *ticks = self.ticks_left.min(u64::from(*ticks)) as u32;
+            self.ticks_left -= u64::from(*ticks);
+        }
         record.play(&mut self.mill);
         record.append_to(&mut self.log);
         self.records += 1;
@@ -190,6 +203,9 @@ impl Maker {
     }
 
     pub(super) fn ticks(&mut self) -> u32 {
+        if self.pace == Pace::Short {
+            return self.short_ticks();
+        }
         let ticks = match self.random.below(100) {
             0..4 => 0,
             4..28 => 1,

@@ -11,10 +11,12 @@ mod maker;
 mod moves;
 mod pause;
 mod scenes;
+mod short;
 mod states;
 mod torn;
 
 pub use damage::{damaged_log, short_damaged_log, Damage};
+pub use short::{ticks_of, MOST_TICKS};
 pub use states::random_board;
 
 use crate::log::LONGEST;
@@ -107,6 +109,15 @@ impl Sort for Profile {
     }
 }
 
+/// How long advances are.
+#[derive(Clone, Copy, PartialEq, Eq, Debug)]
+pub enum Pace {
+    /// Any number of ticks, the largest too.
+    Any,
+    /// So few that every tick can be walked.
+    Short,
+}
+
 /// A log, and the pin that is its pause key.
 pub struct Log {
     /// Its bytes.
@@ -122,16 +133,36 @@ pub fn log(profile: Profile, seed: u64, number: u64) -> Vec<u8> {
 
 /// The same, with its pause key.
 pub fn keyed_log(profile: Profile, seed: u64, number: u64) -> Log {
+    paced_log(profile, Pace::Any, seed, number)
+}
+
+/// The log with this number whose every tick can be walked: its advances together are at most
+/// [`MOST_TICKS`].
+pub fn short_log(profile: Profile, seed: u64, number: u64) -> Vec<u8> {
+    paced_log(profile, Pace::Short, seed, number).bytes
+}
+
+/// Such a log that begins with a long walk: half of its ticks in one advance, with a firing at each.
+pub fn walk_log(profile: Profile, seed: u64) -> Vec<u8> {
+    let mut maker = Maker::new(Pace::Short, seed);
+    maker.set_walk_scene();
+    finish(maker, profile, &mut Random::new(!seed)).bytes
+}
+
+fn paced_log(profile: Profile, pace: Pace, seed: u64, number: u64) -> Log {
     let mut random = Random::new(seed ^ number.wrapping_mul(0xD134_2543_DE82_EF95));
     if profile == Profile::Torn {
-        torn::log(&mut random, number)
+        torn::log(pace, &mut random, number)
     } else {
-        sound_log(profile, &mut random)
+        sound_log(profile, pace, &mut random)
     }
 }
 
-fn sound_log(profile: Profile, random: &mut Random) -> Log {
-    let mut maker = Maker::new(random.any());
+fn sound_log(profile: Profile, pace: Pace, random: &mut Random) -> Log {
+    finish(Maker::new(pace, random.any()), profile, random)
+}
+
+fn finish(mut maker: Maker, profile: Profile, random: &mut Random) -> Log {
     let length = match random.below(100) {
         // A pause that isn't resumed comes once in a log.
         _ if profile == Profile::Pause => 10 + random.below(120),

@@ -1,6 +1,7 @@
 //! Torn logs: cut, damaged, overlong or never a log at all.
 
-use super::{sound_log, Log, Profile};
+use super::short::shorten;
+use super::{sound_log, Log, Pace, Profile};
 use crate::log::{Reader, Record, LONGEST, MARK};
 use crate::random::Random;
 
@@ -8,7 +9,15 @@ use crate::random::Random;
 /// if the profiles come in turn.
 const FIXED: [usize; 5] = [0, LONGEST, LONGEST + 1, LONGEST + 1, LONGEST - 1];
 
-pub(super) fn log(random: &mut Random, number: u64) -> Log {
+pub(super) fn log(pace: Pace, random: &mut Random, number: u64) -> Log {
+    let mut log = any_log(pace, random, number);
+    if pace == Pace::Short {
+        shorten(&mut log.bytes);
+    }
+    log
+}
+
+fn any_log(pace: Pace, random: &mut Random, number: u64) -> Log {
     let turn = number as usize / Profile::ALL.len();
     if let Some(&length) = FIXED.get(turn) {
         return no_key(deliveries(length));
@@ -19,7 +28,7 @@ pub(super) fn log(random: &mut Random, number: u64) -> Log {
         5..9 => no_key(random_bytes(random)),
         _ => {
             let profile = random.choose(&Profile::SOUND);
-            let mut log = sound_log(profile, random);
+            let mut log = sound_log(profile, pace, random);
             for _ in 0..1 + random.below(10) / 8 {
                 damage(&mut log.bytes, random);
             }

@@ -1,6 +1,7 @@
 //! Random calls.
 
-use crate::abi::Call;
+use crate::abi::{kind, Call};
+use crate::generate::Pace;
 use crate::part::Part;
 use crate::random::Random;
 
@@ -13,16 +14,18 @@ fn timer_place(random: &mut Random) -> (u64, u64) {
 }
 
 /// One of each call but a reset, with arguments that are not refused.
-pub fn each(random: &mut Random) -> [Call; 8] {
+pub fn each(pace: Pace, random: &mut Random) -> [Call; 8] {
     let (width, offset) = timer_place(random);
     let bits = 8 * width;
     let value = random.any() >> (64 - bits) >> random.below(bits);
     let data = random.choose(&[0x00, 0x10]);
     let word = u64::from(random.any() as u32 & 0x0001_FFFF);
-    let ticks = match random.below(3) {
-        0 => u32::MAX,
-        1 => random.below(12) as u32,
-        _ => random.any() as u32 >> random.below(32),
+    let ticks = match (random.below(3), pace) {
+        (1, _) => random.below(12) as u32,
+        (0, Pace::Any) => u32::MAX,
+        (_, Pace::Any) => random.any() as u32 >> random.below(32),
+        (0, Pace::Short) => 1,
+        (_, Pace::Short) => random.below(100) as u32,
     };
     [
         Call::Read { window: 1, width, offset },
@@ -37,8 +40,8 @@ pub fn each(random: &mut Random) -> [Call; 8] {
 }
 
 /// Any call, a reset and refused accesses to the timers among them.
-pub fn any(random: &mut Random) -> Call {
-    let mut calls = each(random).to_vec();
+pub fn any(pace: Pace, random: &mut Random) -> Call {
+    let mut calls = each(pace, random).to_vec();
     calls.extend([Call::Reset, at_the_timers(random)]);
     random.choose(&calls)
 }
@@ -67,5 +70,35 @@ pub fn wide(random: &mut Random) -> Call {
         1 => Call::Write { window, width, offset, value: random.any() },
         2 => Call::Wire { pin: random.choose(&[4_000_000_000, high, high | 5]), level: bit },
         _ => Call::Wire { pin: 5, level: random.choose(&[high, high | 1, 4_000_000_000]) },
+    }
+}
+
+// For the entries over a kind and four numbers.
+
+/// How many numbers a kind of the board's calls names; it ignores the others.
+pub fn named(kind: u64) -> usize {
+    match kind {
+        kind::READ => 3,
+        kind::WRITE => 4,
+        kind::WIRE => 2,
+        kind::END | kind::ADVANCE => 1,
+        _ => 0,
+    }
+}
+
+/// Puts something into numbers that are ignored.
+pub fn litter(ignored: &mut [u64], random: &mut Random) {
+    for number in ignored {
+        *number = random.choose(&[0, 1, 5, u64::MAX, random.clone().any()]);
+    }
+}
+
+/// A kind that isn't among 1 to `last`; with fewer bits it would often be one.
+pub fn unknown_kind(last: u64, random: &mut Random) -> u64 {
+    let high = random.choose(&[1 << 8, 1 << 16, 1 << 32, 1 << 63, u64::MAX << 8]);
+    match random.below(4) {
+        0 => random.choose(&[0, last + 1, last + 2, 255, 256, 1 << 32, u64::MAX, (1 << 63) - 1]),
+        1 => last + 1 + random.below(250),
+        _ => high | random.below(last + 1),
     }
 }

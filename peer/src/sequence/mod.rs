@@ -1,5 +1,5 @@
 //! Random sequences of calls on lent memory, resets among them: the board's here, the mill's in
-//! [`mill`]. A salvage keeps nothing from call to call; its calls are in [`salvage`].
+//! [`mill`], the plain engine's in [`plain`]. A salvage keeps nothing from call to call; its calls are in [`salvage`].
 //!
 //! A sequence starts from any memory. Ill-formed memory stays as it is until a reset mends it.
 //! From then on the sequence goes on from the reset board, with the first records of a log, so
@@ -9,11 +9,12 @@ mod calls;
 mod clauses;
 mod memory;
 pub mod mill;
+pub mod plain;
 pub mod salvage;
 
 use crate::abi::{Board, Call, Reply};
 use crate::board;
-use crate::generate::{self, random_board, Profile};
+use crate::generate::{self, random_board, Pace, Profile};
 use crate::log::records_of;
 use crate::random::Random;
 use clauses::CLAUSES;
@@ -89,6 +90,7 @@ impl Sequence {
 
 /// Makes sequences, round by round; the seed decides them.
 pub struct Maker {
+    pace: Pace,
     random: Random,
     seed: u64,
     round: u64,
@@ -100,13 +102,23 @@ pub struct Maker {
 impl Maker {
     /// A maker before its first round.
     pub fn new(seed: u64) -> Maker {
-        Maker { random: Random::new(seed), seed, round: 0, log: Vec::new(), sequences: Vec::new() }
+        Maker::paced(Pace::Any, seed)
+    }
+
+    /// The same, with advances that are as long as said.
+    pub fn paced(pace: Pace, seed: u64) -> Maker {
+        let (random, log, sequences) = (Random::new(seed), Vec::new(), Vec::new());
+        Maker { pace, random, seed, round: 0, log, sequences }
     }
 
     /// The next round's sequences, of every kind.
     pub fn round(&mut self) -> Vec<Sequence> {
         let profile = Profile::ALL[(self.round % 4) as usize];
-        let (records, _) = records_of(&generate::log(profile, self.seed, self.round));
+        let log = match self.pace {
+            Pace::Any => generate::log(profile, self.seed, self.round),
+            Pace::Short => generate::short_log(profile, self.seed, self.round),
+        };
+        let (records, _) = records_of(&log);
         self.log = records.into_iter().take(2_000).map(Call::from).collect();
         self.round += 1;
         self.reset_and_log();
@@ -165,7 +177,7 @@ impl Maker {
     fn calls_on_states(&mut self) {
         for _ in 0..40 {
             let start = self.state();
-            let calls = (0..6).map(|_| calls::any(&mut self.random)).collect();
+            let calls = (0..6).map(|_| calls::any(self.pace, &mut self.random)).collect();
             self.push(Kind::State, start, calls);
         }
     }
@@ -187,12 +199,12 @@ impl Maker {
 
     /// Every call, then a reset and what can follow it; sometimes once more from there.
     fn mend(&mut self, kind: Kind, start: Board) {
-        let mut calls = calls::each(&mut self.random).to_vec();
+        let mut calls = calls::each(self.pace, &mut self.random).to_vec();
         for _ in 0..1 + self.random.below(4) / 3 {
             calls.push(Call::Reset);
             let length = self.random.below(16) as usize;
             calls.extend(self.log.iter().take(length));
-            calls.extend(calls::each(&mut self.random));
+            calls.extend(calls::each(self.pace, &mut self.random));
         }
         self.push(kind, start, calls);
     }

@@ -1,10 +1,11 @@
 //! A stand-in for the first program's library: the second program's model behind the same C
-//! interface. With it `lent-check`, `mill-check`, `salvage-check` and the benchmarks can be tried without the
-//! libraries, and have to pass.
+//! interface. With it `lent-check`, `mill-check`, `plain-check`, `salvage-check` and the benchmarks can be tried
+//! without the libraries, and have to pass.
 
 use std::slice::{from_raw_parts, from_raw_parts_mut};
 
 use peer::abi::mill::{Mill, MillCall};
+use peer::abi::plain::PlainCall;
 use peer::abi::salvage::{salvage, Salvaged};
 use peer::abi::{Board, Call, Reply};
 
@@ -21,6 +22,11 @@ fn answer_copy(board: *const Board, call: Call) -> Reply {
 fn answer_mill(mill: *mut Mill, call: MillCall) -> Reply {
     // SAFETY: as above, for a mill.
     call.answer(unsafe { &mut *mill })
+}
+
+fn answer_plain(board: *mut Board, call: PlainCall) -> Reply {
+    // SAFETY: as above, for a board.
+    call.answer(unsafe { &mut *board })
 }
 
 /// Resets the board.
@@ -87,6 +93,19 @@ pub extern "C" fn nataqvoju_mill(
     d: u64,
 ) -> Reply {
     answer_mill(mill, MillCall { kind, numbers: [a, b, c, d] })
+}
+
+/// Any call of the plain engine.
+#[no_mangle]
+pub extern "C" fn nataqvoju_plain(
+    board: *mut Board,
+    kind: u64,
+    p: u64,
+    q: u64,
+    r: u64,
+    s: u64,
+) -> Reply {
+    answer_plain(board, PlainCall { kind, numbers: [p, q, r, s] })
 }
 
 /// The records of a damaged log, and the list of what was skipped.

@@ -1,7 +1,7 @@
 use mathlib.Core.Path.{sym}
 use lib.Seq.{length-take-le}
-use Rattle.replay.specs.Output.{outputOf}
-use Rattle.replay.proofs.Outputs.{within}
+use Rattle.log.specs.Output.{outputOf}
+use Rattle.log.proofs.Outputs.{within}
 use borrow.Author.Needs.{needs}
 use Rattle.replay.proofs.answer.Statement.{statement}
 use Rattle.replay.proofs.answer.Tie as tie

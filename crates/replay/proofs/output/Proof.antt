@@ -1,7 +1,7 @@
 use Rattle.lines.specs.Line.{tooLong}
 use Rattle.lines.proofs.Puts.{put-at}
 use native.Mathlib.Omega.{arith}
-use Rattle.replay.proofs.Outputs.{refused, whole}
+use Rattle.log.proofs.Outputs.{refused, whole}
 use borrow.Author.Needs.{needs}
 use Rattle.replay.proofs.output.Statement.{statement}
 use Rattle.replay.proofs.output.Tie as tie

@@ -4,7 +4,7 @@ mod hurts;
 mod long;
 
 use super::maker::Maker;
-use super::{Profile, Sort};
+use super::{Pace, Profile, Sort};
 use crate::random::Random;
 
 /// What has happened to a log.
@@ -100,7 +100,7 @@ fn some_records(random: &mut Random) -> Vec<u8> {
         _ => 50 + random.below(300),
     };
     let profile = random.choose(&Profile::SOUND);
-    let mut maker = Maker::new(random.any());
+    let mut maker = Maker::new(Pace::Any, random.any());
     while maker.records < records {
         maker.move_by(profile);
     }

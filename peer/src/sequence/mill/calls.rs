@@ -2,29 +2,22 @@
 
 use crate::abi::mill::{kind, Asked, Mill, MillCall};
 use crate::abi::Call;
+use crate::generate::Pace;
 use crate::random::Random;
 use crate::sequence::calls;
 
 /// A call with something in the numbers that it ignores.
 pub fn littered(asked: Asked, random: &mut Random) -> MillCall {
     let mut call = MillCall::new(asked);
-    let named = match call.kind {
-        kind::READ => 3,
-        kind::WRITE => 4,
-        kind::WIRE => 2,
-        kind::END | kind::ADVANCE | kind::TELL => 1,
-        _ => 0,
-    };
-    for number in &mut call.numbers[named..] {
-        *number = random.choose(&[0, 1, 5, u64::MAX, random.clone().any()]);
-    }
+    let named = if call.kind == kind::TELL { 1 } else { calls::named(call.kind) };
+    calls::litter(&mut call.numbers[named..], random);
     call
 }
 
 /// One of each call but a reset, the board's with arguments that are not refused, a telling that is
 /// always refused, and an unknown kind.
 pub fn each(random: &mut Random) -> Vec<MillCall> {
-    let board = calls::each(random);
+    let board = calls::each(Pace::Any, random);
     let mut asked: Vec<Asked> = board.into_iter().map(Asked::Board).collect();
     asked.extend([Asked::Tell(random.below(24)), Asked::Tell(24 + random.below(9)), Asked::Resume]);
     let mut calls: Vec<MillCall> = asked.into_iter().map(|asked| littered(asked, random)).collect();
@@ -36,7 +29,7 @@ pub fn each(random: &mut Random) -> Vec<MillCall> {
 pub fn any(mill: &Mill, random: &mut Random) -> MillCall {
     let roll = random.below(100);
     match roll {
-        0..30 => littered(Asked::Board(calls::any(random)), random),
+        0..30 => littered(Asked::Board(calls::any(Pace::Any, random)), random),
         30..88 => littered(near(mill, random), random),
         88..96 => wide(mill, random),
         _ => unknown(random),
@@ -81,13 +74,7 @@ pub fn wide(mill: &Mill, random: &mut Random) -> MillCall {
     }
 }
 
-/// A kind that there isn't; with fewer bits it would often be one.
 fn unknown(random: &mut Random) -> MillCall {
-    let high = random.choose(&[1 << 8, 1 << 16, 1 << 32, 1 << 63, u64::MAX << 8]);
-    let kind = match random.below(4) {
-        0 => random.choose(&[0, 10, 11, 255, 256, 1 << 32, u64::MAX, (1 << 63) - 1]),
-        1 => 10 + random.below(250),
-        _ => high | random.below(10),
-    };
+    let kind = calls::unknown_kind(kind::RESUME, random);
     MillCall { kind, numbers: [(); 4].map(|()| random.below(24)) }
 }
