@@ -13,6 +13,16 @@ use Rattle.board.specs.State.{board}
 use Rattle.board.specs.Tick.{fire, turned, upTo, tick, firesIn, ticks, firings}
 use Rattle.board.proofs.Turns.{turned-timers}
 
+-- ---- no tick yet
+
+pub ticks-none : (b : Board) → ticks 0 b ≡ b
+unfolding ticks
+ticks-none b = refl
+
+pub firings-none : (m : ℕ) (b : Board) → firings m 0 b ≡ 0
+unfolding firings
+firings-none m b = refl
+
 -- ---- "Disabled: nothing happens"
 
 tick-off : (b : Board) → isEnabled (b .timers) ≡ false → tick b ≡ b

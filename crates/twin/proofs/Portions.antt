@@ -1,6 +1,7 @@
 -- An advance in portions, as the loop makes it (demand 3).
-use Prim.Native.Nat.{ℕ, _+_}
-use mathlib.Core.Path.{_≡_, sym, ap, _∙_}
+use Prim.Native.Nat.{ℕ, zero, suc, _+_, _<_}
+use mathlib.Core.Path.{_≡_, refl, sym, ap, _∙_}
+use native.Mathlib.Omega.{arith}
 use Rattle.answers.specs.declared.Answer.the-variants as answer
 use Rattle.answers.specs.Numbers.{numbersOf}
 use Rattle.board.specs.declared.Board.{Board}
@@ -17,6 +18,14 @@ use Rattle.board.proofs.Demands.{advance-is-ticks, fired}
 abbrev pub ticked : ℕ → Board → Turn
 ticked n b = turn (ticks n b) (answer.Fired (firings 0 n b) (firings 1 n b) (firings 2 n b))
 
+-- timer m's count in it
+fired-ticked : (n : ℕ) (b : Board) (m : ℕ) → m < 3 → fired m (ticked n b .answer) ≡ firings m n b
+unfolding numbersOf
+fired-ticked n b zero l = refl
+fired-ticked n b (suc zero) l = refl
+fired-ticked n b (suc (suc zero)) l = refl
+fired-ticked n b (suc (suc (suc m))) l = absurd (omega arith)
+
 module _ (b : Board) (z : Formed b) where
   pub whole : (n : ℕ) → ticked n b ≡ turnOf b (call.Advance n)
   whole n = sym (advance-is-ticks b n (formed-out b z))
@@ -29,14 +38,9 @@ module _ (b : Board) (z : Formed b) where
     pub board-on : t .board ≡ ticks (d + p) b
     board-on = ap (λ (u : Turn). u .board) so ∙ sym (ticks-add d p b)
 
-    pub fired0-on : (f : ℕ) → f ≡ firings 0 d b → f + fired 0 (t .answer) ≡ firings 0 (d + p) b
-    unfolding numbersOf
-    fired0-on f e = ap (λ (k : ℕ). k + fired 0 (t .answer)) e ∙ ap (λ (u : Turn). firings 0 d b + fired 0 (u .answer)) so ∙ sym (firings-add 0 d p b)
-
-    pub fired1-on : (f : ℕ) → f ≡ firings 1 d b → f + fired 1 (t .answer) ≡ firings 1 (d + p) b
-    unfolding numbersOf
-    fired1-on f e = ap (λ (k : ℕ). k + fired 1 (t .answer)) e ∙ ap (λ (u : Turn). firings 1 d b + fired 1 (u .answer)) so ∙ sym (firings-add 1 d p b)
-
-    pub fired2-on : (f : ℕ) → f ≡ firings 2 d b → f + fired 2 (t .answer) ≡ firings 2 (d + p) b
-    unfolding numbersOf
-    fired2-on f e = ap (λ (k : ℕ). k + fired 2 (t .answer)) e ∙ ap (λ (u : Turn). firings 2 d b + fired 2 (u .answer)) so ∙ sym (firings-add 2 d p b)
+    pub fired-on : (m : ℕ) → m < 3 → (f : ℕ) → f ≡ firings m d b → f + fired m (t .answer) ≡ firings m (d + p) b
+    fired-on m l f e =
+        ap (λ (k : ℕ). k + fired m (t .answer)) e
+        ∙ ap (λ (u : Turn). firings m d b + fired m (u .answer)) so
+        ∙ ap (λ (k : ℕ). firings m d b + k) (fired-ticked p (ticks d b) m l)
+        ∙ sym (firings-add m d p b)

@@ -1,5 +1,5 @@
-use mathlib.Core.Path.{_≡_, refl, ap, _∙_}
-use Prim.Native.Nat.{ℕ, _+_, _-_, _≤_}
+use mathlib.Core.Path.{_≡_, sym, ap, _∙_}
+use Prim.Native.Nat.{ℕ, _+_, _-_, _≤_, _<_}
 use native.Mathlib.Omega.{arith}
 use lib.ListN.{length, getD}
 use borrow.Author.Needs.{needs}
@@ -7,8 +7,8 @@ use Rattle.answers.specs.declared.Answer.the-variants as answer
 use Rattle.answers.specs.declared.Numbers.{Numbers}
 use Rattle.board.specs.State.{turn}
 use Rattle.board.proofs.Formed.{Formed, formed-in}
-use Rattle.plain.proofs.Walk.{firings-le}
-use Rattle.twin.proofs.Portions.{ticked, whole, board-on, fired0-on, fired1-on, fired2-on}
+use Rattle.plain.proofs.Walk.{ticks-none, firings-none, firings-le}
+use Rattle.twin.proofs.Portions.{ticked, whole, board-on, fired-on}
 use Rattle.board.specs.Tick.{ticks as ticksOf, firings}
 use Rattle.twin.proofs.walk.in_portions.Statement.{statement}
 use Rattle.twin.proofs.walk.in_portions.Tie as tie
@@ -50,27 +50,18 @@ next x =
     let a = x .before .before .before .before .before in
     board-on (a .before .args .b) (good (a .before)) (a .loop .done) (x .before .before .least .result) (a .loop .board) (x .before .plain-advance .result) (a .loop .inv .1) (x .before .plain-advance .ensures)
 
-more0 : (x : Made) → x .before .before .before .before .before .loop .fired0 + getD (x .numbers .result .fired) 0 0 ≡ firings 0 (on x) (x .before .before .before .before .before .before .args .b)
-more0 x =
+-- timer m's count, which was f before the portion
+more : (m : ℕ) → m < 3 → (x : Made) (f : ℕ) → f ≡ firings m (x .before .before .before .before .before .loop .done) (x .before .before .before .before .before .before .args .b)
+    → f + getD (x .numbers .result .fired) m 0 ≡ firings m (on x) (x .before .before .before .before .before .before .args .b)
+more m l x f e =
     let a = x .before .before .before .before .before in
-    ap (λ (n : Numbers). a .loop .fired0 + getD (n .fired) 0 0) (x .numbers .ensures)
-    ∙ fired0-on (a .before .args .b) (good (a .before)) (a .loop .done) (x .before .before .least .result) (a .loop .board) (x .before .plain-advance .result) (a .loop .inv .1) (x .before .plain-advance .ensures) (a .loop .fired0) (a .loop .inv .2)
-
-more1 : (x : Made) → x .before .before .before .before .before .loop .fired1 + getD (x .numbers .result .fired) 1 0 ≡ firings 1 (on x) (x .before .before .before .before .before .before .args .b)
-more1 x =
-    let a = x .before .before .before .before .before in
-    ap (λ (n : Numbers). a .loop .fired1 + getD (n .fired) 1 0) (x .numbers .ensures)
-    ∙ fired1-on (a .before .args .b) (good (a .before)) (a .loop .done) (x .before .before .least .result) (a .loop .board) (x .before .plain-advance .result) (a .loop .inv .1) (x .before .plain-advance .ensures) (a .loop .fired1) (a .loop .inv .3)
-
-more2 : (x : Made) → x .before .before .before .before .before .loop .fired2 + getD (x .numbers .result .fired) 2 0 ≡ firings 2 (on x) (x .before .before .before .before .before .before .args .b)
-more2 x =
-    let a = x .before .before .before .before .before in
-    ap (λ (n : Numbers). a .loop .fired2 + getD (n .fired) 2 0) (x .numbers .ensures)
-    ∙ fired2-on (a .before .args .b) (good (a .before)) (a .loop .done) (x .before .before .least .result) (a .loop .board) (x .before .plain-advance .result) (a .loop .inv .1) (x .before .plain-advance .ensures) (a .loop .fired2) (a .loop .inv .4)
+    ap (λ (n : Numbers). f + getD (n .fired) m 0) (x .numbers .ensures)
+    ∙ fired-on (a .before .args .b) (good (a .before)) (a .loop .done) (x .before .before .least .result) (a .loop .board) (x .before .plain-advance .result) (a .loop .inv .1) (x .before .plain-advance .ensures) m l f e
 
 loop-holds : tie.Need-loop-holds Inv-loop μ-loop
-unfolding ticksOf firings
-loop-holds c = (omega arith, refl, refl, refl, refl)
+loop-holds c =
+    let b = c .args .b in
+    (omega arith, sym (ticks-none b), sym (firings-none 0 b), sym (firings-none 1 b), sym (firings-none 2 b))
 
 shown-requires : tie.Need-shown-requires Inv-loop μ-loop
 shown-requires c κs = tt
@@ -93,7 +84,7 @@ element-copy-out-fired0 c = omega arith
 add-fired0 : tie.Need-add-fired0 Inv-loop μ-loop
 add-fired0 c =
     let x = c .before in
-    omega (arith, more0 x, firings-le 0 (on x) (x .before .before .before .before .before .before .args .b), within x)
+    omega (arith, more 0 (omega arith) x _ (x .before .before .before .before .before .loop .inv .2), firings-le 0 (on x) (x .before .before .before .before .before .before .args .b), within x)
 
 element-copy-out-fired1 : tie.Need-element-copy-out-fired1 Inv-loop μ-loop
 element-copy-out-fired1 c = omega arith
@@ -101,7 +92,7 @@ element-copy-out-fired1 c = omega arith
 add-fired1 : tie.Need-add-fired1 Inv-loop μ-loop
 add-fired1 c =
     let x = c .before .before in
-    omega (arith, more1 x, firings-le 1 (on x) (x .before .before .before .before .before .before .args .b), within x)
+    omega (arith, more 1 (omega arith) x _ (x .before .before .before .before .before .loop .inv .3), firings-le 1 (on x) (x .before .before .before .before .before .before .args .b), within x)
 
 element-copy-out-fired2 : tie.Need-element-copy-out-fired2 Inv-loop μ-loop
 element-copy-out-fired2 c = omega arith
@@ -109,7 +100,7 @@ element-copy-out-fired2 c = omega arith
 add-fired2 : tie.Need-add-fired2 Inv-loop μ-loop
 add-fired2 c =
     let x = c .before .before .before in
-    omega (arith, more2 x, firings-le 2 (on x) (x .before .before .before .before .before .before .args .b), within x)
+    omega (arith, more 2 (omega arith) x _ (x .before .before .before .before .before .loop .inv .4), firings-le 2 (on x) (x .before .before .before .before .before .before .args .b), within x)
 
 add-done : tie.Need-add-done Inv-loop μ-loop
 add-done c =
@@ -124,7 +115,8 @@ loop-less c =
 loop-again : tie.Need-loop-again Inv-loop μ-loop
 loop-again c =
     let x = c .before .before .before .before in
-    (within x, next x, more0 x, more1 x, more2 x)
+    let inv = x .before .before .before .before .before .loop .inv in
+    (within x, next x, more 0 (omega arith) x _ (inv .2), more 1 (omega arith) x _ (inv .3), more 2 (omega arith) x _ (inv .4))
 
 cleared-requires : tie.Need-cleared-requires Inv-loop μ-loop
 cleared-requires c κs = tt
