@@ -11,6 +11,8 @@ pub mod Served
 pub mod Keeps
 pub mod Events
 pub mod Runs
+pub mod Wired
+pub mod Lasts
 pub mod Held
 pub mod Steps
 pub mod Gained

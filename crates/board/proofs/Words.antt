@@ -1,34 +1,26 @@
 -- A delivery's vector, destination and bit 11 are bits of the two words written to its entry, the high one right after the low one, whatever
 -- calls came since that write nothing at the data window and don't reset.
-use Prim.Native.Nat.{ℕ, zero, suc, _/_, _%_, _^_, _<_}
+use Prim.Native.Nat.{ℕ, _/_, _%_, _^_, _<_}
 use mathlib.Core.Path.{_≡_, sym, subst, _∙_}
-use mathlib.Core.Bool.{Bool, true, false, cond}
 use mathlib.Core.List.{List, [], _∷_}
-use lib.Dec.{leb, ltb}
-use lib.ListN.{set}
 use Rattle.answers.specs.declared.Answer.the-variants as answer
-use Rattle.answers.specs.declared.Refusal.the-variants as refusal
+use Rattle.entries.specs.declared.Entries.{Entries}
+use Rattle.entries.specs.Table.{wired}
 use Rattle.entries.proofs.Stays.{Stays, stays-given, stays-same, stays-then, wired-stays, ended-stays}
-use Rattle.controller.specs.declared.Controller.{Controller}
-use Rattle.controller.specs.Steps.{rewired, deliveringOf}
+use Rattle.controller.specs.Steps.{deliveringOf}
 use Rattle.controller.proofs.ReadBack.{given-words, delivered-words}
 use Rattle.controller.proofs.Stays.{index-leaves, delivering-stays}
-use Rattle.timers.specs.declared.Timers.{Timers}
-use Rattle.timers.specs.State.{isEnabled}
-use Rattle.timers.specs.Tick.{matchesOf, firedOf, pulsesOf, routeOf}
 use Rattle.timers.specs.Call.{writingOf as timersWriting}
 use Rattle.board.specs.declared.Board.{Board}
 use Rattle.board.specs.declared.Call.{Call}
 use Rattle.board.specs.declared.Call.the-variants as call
 use Rattle.board.specs.declared.Turn.{Turn}
-use Rattle.board.specs.State.{turn, refused}
-use Rattle.board.specs.Wires.{wiresOf, joined}
-use Rattle.board.specs.Tick.{pulsedAt, effect, fire, turned, upTo, tick, ticks}
-use Rattle.board.specs.Step.{wiringOf, endingOf, advancingOf, deliveringOnBoard, turnOf}
+use Rattle.board.specs.Step.{endingOf, advancingOf, deliveringOnBoard, turnOf}
 use Rattle.board.specs.Runs.{run}
 use Rattle.board.proofs.Formed.{Formed, formed-out}
 use Rattle.board.proofs.Keeps.{keeps, served}
 use Rattle.board.proofs.Served.{served-wire, served-end, served-advance, served-deliver}
+use Rattle.board.proofs.Wired.{joined-keeps, ticks-keep, wiring-keeps}
 use Rattle.board.proofs.Leaves.{read-leaves}
 use Rattle.board.specs.Accesses.{lowWord, highWord}
 use Rattle.board.proofs.Windows.{controller-writes, timers-writes}
@@ -54,75 +46,31 @@ module _ (n : ℕ) (l : n < 24) where
   abbrev Same : Board → Board → Type 0
   Same b d = Stays n (b .controller .entries) (d .controller .entries)
 
-  joined-same : (c : Controller) (s : Timers) (o : List ℕ) → Stays n (c .entries) (joined c s o .controller .entries)
-  unfolding joined
-  joined-same c s o = wired-stays n (c .entries) (wiresOf o s)
-
-  fire-same : (m : ℕ) (b : Board) → Same b (fire m b)
-  unfolding effect
-  fire-same m b = go (pulsesOf (b .timers) m)
-    where
-      w : List ℕ
-      w = wiresOf (b .outside) (firedOf (b .timers) m)
-
-      up : Controller
-      up = rewired (b .controller) (set w (routeOf (b .timers) m) 1)
-
-      go : (x : Bool) → Stays n (b .controller .entries) (cond x (pulsedAt (b .controller) w (routeOf (b .timers) m)) (rewired (b .controller) w) .entries)
-      go true =
-          stays-then n (b .controller .entries) (up .entries) (rewired up w .entries) (wired-stays n (b .controller .entries) (set w (routeOf (b .timers) m) 1)) (wired-stays n (up .entries) w)
-      go false = wired-stays n (b .controller .entries) w
-
-  turned-same : (m : ℕ) (b : Board) → Same b (turned m b)
-  unfolding turned
-  turned-same m b = go (matchesOf (b .timers) m)
-    where
-      go : (x : Bool) → Same b (cond x (fire m b) b)
-      go true = fire-same m b
-      go false = stays-same n (b .controller .entries)
-
-  turns-same : (m : ℕ) (b : Board) → Same b (upTo m b)
-  unfolding upTo
-  turns-same zero b = stays-same n (b .controller .entries)
-  turns-same (suc m) b =
-      stays-then n (b .controller .entries) (upTo m b .controller .entries) (turned m (upTo m b) .controller .entries) (turns-same m b) (turned-same m (upTo m b))
-
-  tick-same : (b : Board) → Same b (tick b)
-  unfolding tick
-  tick-same b = go (isEnabled (b .timers))
-    where
-      go : (x : Bool) → Same b (cond x (upTo 3 b) b)
-      go true = turns-same 3 b
-      go false = stays-same n (b .controller .entries)
-
-  ticks-same : (k : ℕ) (b : Board) → Same b (ticks k b)
-  unfolding ticks
-  ticks-same zero b = stays-same n (b .controller .entries)
-  ticks-same (suc k) b = stays-then n (b .controller .entries) (ticks k b .controller .entries) (tick (ticks k b) .controller .entries) (ticks-same k b) (tick-same (ticks k b))
-
   module _ (b : Board) (z : Formed b) where
+    abbrev e : Entries
+    e = b .controller .entries
+
+    -- as on this board
+    abbrev As : Entries → Type 0
+    As = Stays n e
+
+    -- the wires leave an entry's words
+    wires-leave : (d : Entries) (w : List ℕ) → As d → As (wired d w)
+    wires-leave d w h = stays-then n e d (wired d w) h (wired-stays n d w)
+
     -- the board after a call, by another name of it
     by : (c : Call) (t : Turn) → turnOf b c ≡ t → Same b (t .board) → Same b (turnOf b c .board)
     by c t e = subst (λ (u : Turn). Same b (u .board)) (sym e)
 
-    wiring-same : (p x : ℕ) → Same b (wiringOf b p x .board)
-    unfolding wiringOf
-    wiring-same p x = go (ltb p 24) (leb x 1)
-      where
-        go : (f g : Bool) → Same b (cond f (cond g (turn (joined (b .controller) (b .timers) (set (b .outside) p x)) answer.Done) (refused b refusal.Level)) (refused b refusal.Pin) .board)
-        go true true = joined-same (b .controller) (b .timers) (set (b .outside) p x)
-        go true false = stays-same n (b .controller .entries)
-        go false g = stays-same n (b .controller .entries)
-
     call-same : (c : Call) → Leaves c → Same b (turnOf b c .board)
     unfolding endingOf advancingOf deliveringOnBoard
     call-same c (reads w x o) = subst (Same b) (sym (read-leaves b w x o)) (stays-same n (b .controller .entries))
-    call-same c (selects w v) =
-        by c _ (controller-writes b z w 0x00 v) (subst (Stays n (b .controller .entries)) (sym (index-leaves (b .controller) w v)) (stays-same n (b .controller .entries)))
-    call-same c (sets w o v) = by c _ (timers-writes b z w o v) (joined-same (b .controller) (timersWriting (b .timers) w o v .timers) (b .outside))
-    call-same c (wires p x) = by c _ (served b (call.Wire p x) (formed-out b z) ∙ served-wire b p x) (wiring-same p x)
-    call-same c (ends v) = by c _ (served b (call.End v) (formed-out b z) ∙ served-end b v) (ended-stays n l (b .controller .entries) (z .sized) v)
-    call-same c (advances k) = by c _ (served b (call.Advance k) (formed-out b z) ∙ served-advance b k) (ticks-same k b)
+    call-same c (selects w v) = by c _ (controller-writes b z w 0x00 v) (subst As (sym (index-leaves (b .controller) w v)) (stays-same n e))
+    call-same c (sets w o v) =
+        by c _ (timers-writes b z w o v) (joined-keeps As wires-leave (b .controller) (timersWriting (b .timers) w o v .timers) (b .outside) (stays-same n e))
+    call-same c (wires p x) = by c _ (served b (call.Wire p x) (formed-out b z) ∙ served-wire b p x) (wiring-keeps As wires-leave b p x (stays-same n e))
+    call-same c (ends v) = by c _ (served b (call.End v) (formed-out b z) ∙ served-end b v) (ended-stays n l e (z .sized) v)
+    call-same c (advances k) = by c _ (served b (call.Advance k) (formed-out b z) ∙ served-advance b k) (ticks-keep As wires-leave k b (stays-same n e))
     call-same c delivers = by c _ (served b call.Deliver (formed-out b z) ∙ served-deliver b) (delivering-stays (b .controller) n l (z .sized))
 
   run-same : (cs : List Call) (b : Board) → Formed b → AllLeave cs → Same b (run b cs)

@@ -20,7 +20,7 @@ use Rattle.controller.specs.Window.{dataWritten, readingOf, writingOf, r
 use Rattle.controller.specs.Steps.{rewired, wireOf, afterEnd, endOf, deliveringOf, deliverOf}
 use Rattle.controller.specs.Calls.{Call, read, write, wire, end, deliver, turnOf}
 use Rattle.controller.proofs.Formed.{reading-same}
-use Rattle.controller.proofs.Held.{index-is, low-index}
+use Rattle.controller.proofs.Lasts.{index-is, low-index}
 
 -- a write to some entry's low word, which isn't refused
 pub data LowWrite (c : Controller) : Call → Type 0 where

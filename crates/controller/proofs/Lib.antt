@@ -1,5 +1,6 @@
 pub mod Formed
 pub mod Demands
+pub mod Lasts
 pub mod Held
 pub mod Gained
 pub mod ReadBack
