@@ -10,6 +10,7 @@ use native.Mathlib.Decide.{ℕ-discrete}
 use lib.Dec.{eqb}
 use lib.ListN.{getD, set, getD-replicate}
 use lib.Seq.{getD-set-same, getD-set-other}
+use borrow.Author.Tests.{not-true}
 use Rattle.pins.proofs.Bools.{clash, and-left, and-right}
 use Rattle.pins.proofs.Fill.{getD-tab}
 use Rattle.entries.specs.declared.Entries.{Entries}
@@ -33,10 +34,6 @@ pub record Exact (p : ℕ) (e e′ : Entries) : Type 0 where
 
 -- ---- a wire change
 
-is-false : (b : Bool) → not b ≡ true → b ≡ false
-is-false true e = clash (sym e)
-is-false false e = refl
-
 module _ (e : Entries) (l : List ℕ) (p : ℕ) (k : p < 24) where
   abbrev w : ℕ
   w = lowAt e p
@@ -53,9 +50,9 @@ module _ (e : Entries) (l : List ℕ) (p : ℕ) (k : p < 24) where
       let a = and-left (not (maskedOf w) && not (levelOf w) && not (asserted w x)) (asserted w y) t in
       let b = and-left (not (maskedOf w) && not (levelOf w)) (not (asserted w x)) a in
       record {
-        unmasked = is-false (maskedOf w) (and-left (not (maskedOf w)) (not (levelOf w)) b);
-        edge = is-false (levelOf w) (and-right (not (maskedOf w)) (not (levelOf w)) b);
-        before = is-false (asserted w x) (and-right (not (maskedOf w) && not (levelOf w)) (not (asserted w x)) a);
+        unmasked = not-true (maskedOf w) (and-left (not (maskedOf w)) (not (levelOf w)) b);
+        edge = not-true (levelOf w) (and-right (not (maskedOf w)) (not (levelOf w)) b);
+        before = not-true (asserted w x) (and-right (not (maskedOf w) && not (levelOf w)) (not (asserted w x)) a);
         after = and-right (not (maskedOf w) && not (levelOf w) && not (asserted w x)) (asserted w y) t;
       }
 

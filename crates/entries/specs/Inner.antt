@@ -3,7 +3,7 @@
 use Prim.Native.Nat.{ℕ}
 use mathlib.Core.Bool.{Bool, not, cond, _&&_}
 use mathlib.Core.List.{List}
-use lib.Dec.{eqb}
+use lib.Dec.{eqb, leb}
 use lib.ListN.{getD, set}
 use mir.Val.{boolByte}
 use Rattle.pins.specs.Pins.{pins, every, bitsOf}
@@ -50,5 +50,6 @@ heldTaken w held = cond (levelOf w) held 0
 unfoldable pub wordsOk : List ℕ → Bool
 wordsOk w = every (λ i. wordOk (getD w i 0))
 
+-- a held edge is at most 1, and 0 on a level pin
 unfoldable pub edgesOk : List ℕ → List ℕ → Bool
-edgesOk w h = every (λ i. not (levelOf (getD w i 0) && eqb (getD h i 0) 1))
+edgesOk w h = every (λ i. leb (getD h i 0) (boolByte (not (levelOf (getD w i 0)))))

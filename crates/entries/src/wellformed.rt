@@ -18,14 +18,14 @@ impl Entries {
         ok
     }
 
-    // No level pin holds an edge.
+    // Held edges are 0 or 1, and 0 on a level pin: one comparison for both.
     fn edges_ok(low: [u32; 24], held: [u8; 24]) -> bool
         ensures { λ r. ⌜ r ≡ edgesOk low held ⌝ }
     {
         let mut ok = true;
         let mut i: usize = 0;
         while i < Entries::PINS {
-            ok = ok & !(Low(low[i]).is_level() & (held[i] == 1));
+            ok = ok & (held[i] <= (!Low(low[i]).is_level()) as u8);
             i += 1;
         }
         ok
@@ -38,9 +38,7 @@ impl Entries {
         let low = self.low;
         let level = self.level;
         let held = self.held;
-        Entries::words_ok(low)
-            & (Entries::edges_ok(low, held)
-                & (Entries::levels_ok(level) & Entries::levels_ok(held)))
+        Entries::words_ok(low) & (Entries::edges_ok(low, held) & Entries::levels_ok(level))
     }
 
     pub fn levels_ok(levels: [u8; 24]) -> bool

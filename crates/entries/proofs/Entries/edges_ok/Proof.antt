@@ -2,7 +2,8 @@ use mathlib.Core.Path.{_≡_, refl, ap, ap₂, _∙_}
 use mathlib.Core.Bool.{Bool, not, _&&_}
 use mathlib.Core.List.{List}
 use Prim.Native.Nat.{ℕ, _-_, _≤_}
-use lib.Dec.{eqb}
+use lib.Dec.{leb}
+use mir.Val.{boolByte}
 use lib.ListN.{getD}
 use Rattle.pins.specs.Pins.{allFrom}
 use Rattle.pins.proofs.Scan.{all-more}
@@ -16,7 +17,7 @@ use Rattle.entries.proofs.Entries.edges_ok.Lts as lts
 use Rattle.entries.proofs.Low.is_level.Reads as is-level-reads
 
 abbrev fits : List ℕ → List ℕ → ℕ → Bool
-fits w h i = not (levelOf (getD w i 0) && eqb (getD h i 0) 1)
+fits w h i = leb (getD h i 0) (boolByte (not (levelOf (getD w i 0))))
 
 abbrev Inv-loop : tie.InvT-loop
 Inv-loop low held ok₀ i₀ ok i = (i ≤ 24) × (ok ≡ allFrom (fits low held) 0 i)
@@ -28,17 +29,20 @@ loop-holds : tie.Need-loop-holds Inv-loop μ-loop
 unfolding allFrom
 loop-holds c = (omega arith, refl)
 
-mul-t8 : tie.Need-mul-t8 Inv-loop μ-loop
-mul-t8 c = omega arith
+array-read-ok : tie.Need-array-read-ok Inv-loop μ-loop
+array-read-ok c = omega arith
 
-array-read-t11 : tie.Need-array-read-t11 Inv-loop μ-loop
-array-read-t11 c = omega arith
+mul-t11 : tie.Need-mul-t11 Inv-loop μ-loop
+mul-t11 c = omega arith
+
+array-read-t14 : tie.Need-array-read-t14 Inv-loop μ-loop
+array-read-t14 c = omega arith
 
 is-level-requires : tie.Need-is-level-requires Inv-loop μ-loop
 is-level-requires c κs = tt
 
-array-read-ok : tie.Need-array-read-ok Inv-loop μ-loop
-array-read-ok c = omega arith
+cast-ok : tie.Need-cast-ok Inv-loop μ-loop
+cast-ok c = tt
 
 add-i : tie.Need-add-i Inv-loop μ-loop
 add-i c = omega arith
@@ -52,7 +56,7 @@ loop-again c =
     let w = a .before .args .t1 in
     let h = a .before .args .t2 in (
       omega arith,
-      ap₂ (λ (x y : Bool). x && not (y && eqb (getD h (a .loop .i) 0) 1)) (a .loop .inv .1) (c .is-level .ensures) ∙ all-more (fits w h) (a .loop .i),
+      ap₂ (λ (x y : Bool). x && leb (getD h (a .loop .i) 0) (boolByte (not y))) (a .loop .inv .1) (c .is-level .ensures) ∙ all-more (fits w h) (a .loop .i),
     )
 
 returns : tie.Need-returns Inv-loop μ-loop
@@ -69,10 +73,11 @@ edges-ok-spec =
     Inv-loop
     μ-loop
     loop-holds
-    mul-t8
-    array-read-t11
-    is-level-requires
     array-read-ok
+    mul-t11
+    array-read-t14
+    is-level-requires
+    cast-ok
     add-i
     loop-less
     loop-again

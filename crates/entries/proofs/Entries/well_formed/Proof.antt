@@ -18,15 +18,12 @@ edges-ok-requires c κs = search needs
 levels-ok-requires : tie.Need-levels-ok-requires
 levels-ok-requires c κs = search needs
 
-levels-ok-requires-2 : tie.Need-levels-ok-requires-2
-levels-ok-requires-2 c κs = search needs
-
 returns : tie.Need-returns
 returns c =
-    rw (c .before .before .before .words-ok .ensures, c .before .before .edges-ok .ensures, c .before .levels-ok .ensures, c .levels-ok2 .ensures)
-    (sym (ok-apart (c .before .before .before .before .before .before .before .args .self)))
+    rw (c .before .before .words-ok .ensures, c .before .edges-ok .ensures, c .levels-ok .ensures)
+    (sym (ok-apart (c .before .before .before .before .before .before .args .self)))
 
 pub well-formed-spec : {M : Type 1} → statement M
 well-formed-spec =
     tie.close
-    (tie.spec words-ok-requires edges-ok-requires levels-ok-requires levels-ok-requires-2 returns)
+    (tie.spec words-ok-requires edges-ok-requires levels-ok-requires returns)
