@@ -1,5 +1,6 @@
 pub mod Fields
 pub mod Sized
+pub mod Written
 pub mod Formed
 pub mod Pulse
 pub mod Apart
