@@ -10,4 +10,5 @@ pub mod One
 pub mod Strikes
 pub mod Edges
 pub mod ReadBack
+pub mod Remote
 pub mod Stays
