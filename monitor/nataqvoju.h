@@ -72,7 +72,7 @@ typedef struct {
 
 /* The 24 redirection entries, each with its pin's wire and held edge. */
 typedef struct {
-    uint32_t low[24];        /* 16:0 as documented, bit 12 never stored */
+    uint32_t low[24];        /* 16:0 as documented, bit 12 never stored, bit 14 only if 15 is 1 */
     uint8_t destination[24]; /* bits 31:24 of the high word */
     uint8_t level[24];       /* the level of the pin's wire, as the wire rule gives it: 0 or 1 */
     uint8_t held[24];        /* an edge is held: 0 or 1, and 0 on a level pin */

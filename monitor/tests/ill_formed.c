@@ -158,7 +158,13 @@ static void of_pin(unsigned p) {
     uint32_t low = good.controller.entries.low[p];
     BROKEN(controller.entries.low[p], p, low | 0x1000);
     for (k = 17; k < 32; k++) BROKEN(controller.entries.low[p], p, low | (uint32_t)1 << k);
-    FINE(controller.entries.low[p], p, low ^ 0x4000);
+    /* remote IRR stands on a level entry alone, masked or not */
+    for (k = 0; k < 2; k++) {
+        uint32_t masked = (low & ~(uint32_t)0x1C000) | k << 16;
+        BROKEN(controller.entries.low[p], p, masked | 0x4000);
+        if (good.controller.entries.held[p] == 0) FINE(controller.entries.low[p], p, masked | 0xC000);
+    }
+    if (is_level(p)) FINE(controller.entries.low[p], p, low ^ 0x4000);
     counted();
     for (k = 0; k < 256; k++) FINE(controller.entries.destination[p], p, (uint8_t)k);
     counted();

@@ -13,7 +13,7 @@ pub const LOGICAL: u32 = 1 << 11;
 pub const DELIVERY_STATUS: u32 = 1 << 12;
 /// Bit 13.
 pub const ACTIVE_LOW: u32 = 1 << 13;
-/// Bit 14, read only, but stored.
+/// Bit 14, read only, but stored: a level pin waits for its end. An edge entry has 0 there.
 pub const REMOTE_IRR: u32 = 1 << 14;
 /// Bit 15.
 pub const LEVEL: u32 = 1 << 15;
@@ -104,10 +104,13 @@ impl Pin {
         }
     }
 
-    /// A low-word write. It never makes an edge, and remote IRR survives it.
+    /// A low-word write. It never makes an edge. One that leaves the entry edge sets remote IRR to 0; one that
+    /// leaves it level keeps the bit, and drops a held edge. The value written decides which of the two it is.
     pub fn write_low(&mut self, value: u32) {
-        self.low = value & WRITABLE | self.low & REMOTE_IRR;
+        let irr = self.low & REMOTE_IRR;
+        self.low = value & WRITABLE;
         if self.is_level() {
+            self.low |= irr;
             self.held = false;
         }
     }
@@ -150,6 +153,8 @@ impl Pin {
 
     /// The pin's own part of "well formed"; the wire is the board's.
     pub fn is_well_formed(&self) -> bool {
-        self.low & !(WRITABLE | REMOTE_IRR) == 0 && !(self.is_level() && self.held)
+        self.low & !(WRITABLE | REMOTE_IRR) == 0
+            && !(self.is_level() && self.held)
+            && (self.is_level() || !self.remote_irr())
     }
 }

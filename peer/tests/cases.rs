@@ -4,7 +4,6 @@
 mod common;
 use common::{Desk, EDGE, EDGE_LOW, FIXED, INTERRUPT, LEVEL_TYPE, NARROW, PERIODIC, SET};
 use peer::board::{Board, Calls, Refusal};
-use peer::pin::REMOTE_IRR;
 
 const LEVEL: u64 = 0x8030;
 
@@ -161,26 +160,6 @@ fn a_pin_with_another_mode_holds_edges() {
     desk.set_low(4, EDGE);
     assert_eq!(desk.low(4), EDGE | 0x1000);
     assert_eq!(desk.deliver(), Some((4, 0x30)));
-}
-
-#[test]
-fn remote_irr_survives_on_an_edge_entry() {
-    let irr = u64::from(REMOTE_IRR);
-    let mut desk = Desk::new();
-    desk.set_low(4, LEVEL);
-    desk.wire(4, 1);
-    assert_eq!(desk.deliver(), Some((4, 0x30)));
-    desk.set_low(4, EDGE);
-    assert_eq!(desk.low(4), EDGE | irr);
-    desk.end(0x30);
-    assert_eq!(desk.low(4), EDGE | irr);
-    desk.wire(4, 0);
-    desk.wire(4, 1);
-    assert_eq!(desk.low(4), EDGE | irr | 0x1000);
-    assert_eq!(desk.deliver(), Some((4, 0x30)));
-    desk.set_low(4, LEVEL);
-    assert_eq!(desk.low(4), LEVEL | irr);
-    assert_eq!(desk.deliver(), None);
 }
 
 #[test]
@@ -358,12 +337,18 @@ fn a_disabled_block_stands_still() {
 
 /// Each clause of "well formed" that the model's types leave open, broken alone.
 fn ill_formed() -> Vec<Board> {
-    let breaks: [fn(&mut Board); 16] = [
+    let breaks: [fn(&mut Board); 19] = [
         |board| board.controller.id = 16,
         |board| board.controller.index = 256,
         |board| board.controller.pins[3].low = 0x1000,
         |board| board.controller.pins[3].low = 0x0002_0000,
         |board| board.controller.pins[3].low = 0x8000_0000,
+        |board| board.controller.pins[3].low = 0x4000,
+        |board| board.controller.pins[3].low |= 0x4000,
+        |board| {
+            board.controller.pins[3] =
+                peer::pin::Pin { low: 0x4730, held: true, ..board.controller.pins[3] }
+        },
         |board| {
             board.controller.pins[3] =
                 peer::pin::Pin { low: 0x8000, held: true, ..board.controller.pins[3] }

@@ -7,6 +7,7 @@ use peer::board;
 use peer::fuzz::FIXED_SEED;
 use peer::generate::MOST_TICKS;
 use peer::sequence::plain::{Maker, Step};
+use peer::sequence::stray_irr;
 
 fn reset_board() -> Board {
     Board::from(&board::Board::RESET)
@@ -101,7 +102,7 @@ fn is_ill(call: PlainCall, board: &Board) -> bool {
     !call.is_reset() && !board.is_well_formed()
 }
 
-const WRONG: [(&str, Wrong); 12] = [
+const WRONG: [(&str, Wrong); 13] = [
     ("an unknown kind is done", |call, board| match call.answer(board) {
         Reply { number: 7, .. } => number(0),
         reply => reply,
@@ -136,6 +137,13 @@ const WRONG: [(&str, Wrong); 12] = [
             }
         },
     ),
+    ("remote IRR on an edge entry isn't refused", |call, board| {
+        if call.is_reset() || stray_irr(board).is_empty() {
+            call.answer(board)
+        } else {
+            number(0)
+        }
+    }),
     ("an end above 255 frees nothing", |call, board| match call.kind {
         kind::END if call.numbers[0] > 0xFF && !is_ill(call, board) => number(0),
         _ => call.answer(board),

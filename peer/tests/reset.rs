@@ -9,7 +9,7 @@ use peer::fuzz::FIXED_SEED;
 use peer::generate::{log, random_board, Profile};
 use peer::log::{records_of, replay_from_reset};
 use peer::random::Random;
-use peer::sequence::{Kind, Maker, Sequence};
+use peer::sequence::{broken, Kind, Maker, Sequence};
 use peer::wrong::{self, Mistake};
 
 fn sequences(rounds: usize) -> Vec<Sequence> {
@@ -105,6 +105,16 @@ fn a_sequence_stays_broken_until_a_reset_mends_it() {
             }
             assert!(mended, "every broken sequence has a reset");
         }
+    }
+}
+
+#[test]
+fn the_clause_list_and_the_model_agree() {
+    for sequence in sequences(20) {
+        let whole = broken(&sequence.start).is_empty();
+        assert_eq!(sequence.start.is_well_formed(), whole, "{:?}", sequence.start);
+        assert!(!whole || !matches!(sequence.kind, Kind::Broken | Kind::Memory));
+        assert!(whole || !matches!(sequence.kind, Kind::State | Kind::Wide));
     }
 }
 

@@ -109,7 +109,7 @@ fn short_logs_find_every_mistake_but_one_of_long_advances() {
         .map(|log| (log.clone(), replay_from_reset(&log)))
         .collect();
     let is_found = |mistake| logs.iter().any(|(log, right)| wrong::replay(log, mistake) != *right);
-    for &mistake in Mistake::ALL.iter().filter(|mistake| !mistake.is_of_reset()) {
+    for &mistake in Mistake::ALL.iter().filter(|mistake| mistake.shows_in_logs()) {
         let is_long = mistake == Mistake::ShortAdvance;
         assert!(is_long || is_found(mistake), "{mistake:?}");
     }

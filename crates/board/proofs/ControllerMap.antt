@@ -51,10 +51,10 @@ module _ (b : Board) (z : Formed b) where
   c = b .controller
 
   module _ (i : ℕ) (h : i ≤ 255) where
-    selected : turnOf b (select i) .board ≡ withController b (withIndex c i)
+    pub selected : turnOf b (select i) .board ≡ withController b (withIndex c i)
     selected = ap (λ (t : Turn). t .board) (selects b z i (omega arith)) ∙ ap (λ (k : ℕ). withController b (withIndex c k)) (mod-eq-of-lt {n = i} {m = 2 ^ 8} (omega arith))
 
-    shown : reads b i ≡ value (shownAt c i)
+    pub shown : reads b i ≡ value (shownAt c i)
     shown = ap (λ (t : Turn). t .answer) (gets (turnOf b (select i) .board) (keeps b z (select i))) ∙ ap (λ (x : Board). value (dataRead (x .controller))) selected
 
     module _ (v : ℕ) (l : v < 2 ^ 32) where
@@ -101,17 +101,18 @@ module _ (b : Board) (z : Formed b) (v : ℕ) (l : v < 2 ^ 32) where
   pub version-back : answers b (select 0x01 ∷ put v ∷ get ∷ []) ≡ ok ∷ ok ∷ value 0x00170011 ∷ []
   version-back = read-back b z 0x01 (omega arith) v l ∙ ap (λ (x : ℕ). ok ∷ ok ∷ value x ∷ []) (version-shown (writtenAt (b .controller) 0x01 v))
 
-  -- "0x10+2n: entry n, low word": bits 11:0, 13, 15 and 16 as written; 12 where the pin is eligible; 14, remote IRR, as it was; the rest 0
+  -- "0x10+2n: entry n, low word": bits 11:0, 13, 15 and 16 as written; 12 where the pin is eligible; 14, remote IRR, as it was if 15 is written 1,
+  -- and 0 if not; the rest 0
   pub low-back :
       (n r : ℕ) → n < 24 → reads b (lowWord n) ≡ value r →
       answers b (select (lowWord n) ∷ put v ∷ get ∷ [])
       ≡ ok ∷ ok
-      ∷ value (v % 2 ^ 12 + boolByte (eligibleAt (stored b (lowWord n) v .controller .entries) n) * 2 ^ 12 + bits 13 1 v + bits 14 1 r + bits 15 1 v + bits 16 1 v)
+      ∷ value (v % 2 ^ 12 + boolByte (eligibleAt (stored b (lowWord n) v .controller .entries) n) * 2 ^ 12 + bits 13 1 v + v / 2 ^ 15 % 2 * (r / 2 ^ 14 % 2) * 2 ^ 14 + bits 15 1 v + bits 16 1 v)
       ∷ []
   low-back n r h e =
       read-back b z (lowWord n) (omega arith) v l
       ∙ ap (λ (x : ℕ). ok ∷ ok ∷ value x ∷ []) (low-word-back (b .controller) v (z .sized) n h)
-      ∙ (λ k. ok ∷ ok ∷ value (word v (boolByte (eligibleAt (after k .controller .entries) n)) (was k / 2 ^ 14 % 2)) ∷ [])
+      ∙ (λ k. ok ∷ ok ∷ value (word v (boolByte (eligibleAt (after k .controller .entries) n)) (v / 2 ^ 15 % 2 * (was k / 2 ^ 14 % 2))) ∷ [])
     where
       after : withController b (writtenAt (b .controller) (lowWord n) v) ≡ stored b (lowWord n) v
       after = sym (stored-is b z (lowWord n) (omega arith) v l)
@@ -188,7 +189,7 @@ module _ (b : Board) (z : Formed b) (n v u : ℕ) (h : n < 24) (l : v < 2 ^ 32) 
       s = boolByte (eligibleAt (writtenAt (b .controller) (lowWord n) v .entries) n)
 
       r : ℕ
-      r = shownAt (b .controller) (lowWord n) / 2 ^ 14 % 2
+      r = v / 2 ^ 15 % 2 * (shownAt (b .controller) (lowWord n) / 2 ^ 14 % 2)
 
       cancel : (x : ℕ) → x * 2 ^ 24 / 2 ^ 24 ≡ x
       cancel x = omega arith

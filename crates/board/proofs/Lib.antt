@@ -25,3 +25,4 @@ pub mod Halves
 pub mod ComparatorHalves
 pub mod InHalves
 pub mod Words
+pub mod Remote

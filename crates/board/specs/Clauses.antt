@@ -5,7 +5,7 @@ use mathlib.Core.Bool.{true, false}
 use mathlib.Core.List.{List, [], _∷_, map}
 use lib.ListN.{replicate, set}
 use Rattle.pins.specs.Pins.{tab, allFrom}
-use Rattle.entries.specs.Word.{levelOf, wordOk}
+use Rattle.entries.specs.Word.{remoteOf, levelOf, wordOk}
 use Rattle.entries.specs.Pin.{pinOk}
 use Rattle.entries.specs.Table.{resetEntries, withLow, withLevel, withHeld, entriesOk, levelsOk}
 use Rattle.controller.specs.declared.Controller.{Controller}
@@ -61,6 +61,10 @@ broken =
     ∷ pin 0x11000 0
     ∷ pin 0x30000 0
     ∷ pin 0x80010000 0
+    -- "An edge entry now always reads bit 14 as 0, and a state where it doesn't is not well formed" (document 02, K4)
+    ∷ pin 0x4000 0
+    ∷ pin 0x4000 1
+    ∷ pin 0x14000 0
     -- "each timer's set-comparator bit is 0 unless it is periodic"
     ∷ timer (withSet resetTimer 1)
     -- "its comparator and period are below 2^32 in 32-bit mode"
@@ -88,10 +92,10 @@ broken =
 pub whole : List Board
 whole =
     controlled (withIndex (withId resetController 15) 255)
-    -- every writable bit and remote IRR; an edge held on a masked pin; remote IRR on an edge pin
+    -- every writable bit and remote IRR; an edge held on a masked pin; remote IRR on a level pin
     ∷ pin 0x1EFFF 0
     ∷ pin 0x10000 1
-    ∷ pin 0x4000 1
+    ∷ pin 0xC000 0
     ∷ timer (withSet (modes 0 1 1 1 (2 ^ 32 - 1) (2 ^ 32 - 1)) 1)
     ∷ timer (modes 0 0 0 0 (2 ^ 64 - 1) (2 ^ 64 - 1))
     ∷ timer (withRoute resetTimer 23)
@@ -101,9 +105,9 @@ whole =
     ∷ []
 
 pub broken-refused : map wellFormed broken ≡ map (λ (b : Board). false) broken
-unfolding broken tab allFrom levelOf wordOk pinOk entriesOk levelsOk controllerFormed resetTimer driving flagsFit narrowFits timerFormed resetTimers timersFormed drivesOf highAt wellFormed
+unfolding broken tab allFrom remoteOf levelOf wordOk pinOk entriesOk levelsOk controllerFormed resetTimer driving flagsFit narrowFits timerFormed resetTimers timersFormed drivesOf highAt wellFormed
 broken-refused = refl
 
 pub whole-taken : map wellFormed whole ≡ map (λ (b : Board). true) whole
-unfolding whole tab allFrom levelOf wordOk pinOk entriesOk levelsOk controllerFormed resetTimer driving flagsFit narrowFits timerFormed resetTimers timersFormed drivesOf highAt wellFormed
+unfolding whole tab allFrom remoteOf levelOf wordOk pinOk entriesOk levelsOk controllerFormed resetTimer driving flagsFit narrowFits timerFormed resetTimers timersFormed drivesOf highAt wellFormed
 whole-taken = refl

@@ -72,11 +72,11 @@ sheet =
     -- M14 an end frees every level entry with the vector, and no other
     ∷ (entry 3 0x8050 ++ entry 11 0x8050 ++ entry 12 0x8051 ++ wire 3 1 ∷ wire 11 1 ∷ wire 12 1 ∷ gives (pin 3 0x50 0 0)
     ∷ gives (pin 11 0x50 0 0) ∷ gives (pin 12 0x51 0 0) ∷ gives none ∷ end 0x50 ∷ gives (pin 3 0x50 0 0) ∷ gives (pin 11 0x50 0 0) ∷ gives none ∷ [])
-    -- M15 an end leaves an edge entry's remote IRR, which hinders no edge and is back when the entry is level again
-    ∷ (entry 3 0x8050 ++ wire 3 1 ∷ gives (pin 3 0x50 0 0) ∷ keeps 0x0050 0x4050 ++ end 0x50 ∷ reads get 0x4050
-    ∷ wire 3 0 ∷ wire 3 1 ∷ reads get 0x5050 ∷ gives (pin 3 0x50 0 0) ∷ reads get 0x4050
-    ∷ keeps 0x8050 0xC050 ++ gives none ∷ end 0x50 ∷ reads get 0x9050 ∷ [])
-    -- M16 remote IRR survives a write and a fall of the wire; the present vector frees it, masked or not, asserted or not
+    -- M15 an edge entry has no remote IRR: the write that leaves it edge sets it to 0, a delivery leaves it 0, and it is 0 when the entry is level again
+    ∷ (entry 3 0x8050 ++ wire 3 1 ∷ gives (pin 3 0x50 0 0) ∷ reads get 0xC050 ∷ keeps 0x0050 0x0050 ++ end 0x50 ∷ reads get 0x0050
+    ∷ wire 3 0 ∷ wire 3 1 ∷ reads get 0x1050 ∷ gives (pin 3 0x50 0 0) ∷ reads get 0x0050
+    ∷ keeps 0x8050 0x9050 ++ gives (pin 3 0x50 0 0) ∷ reads get 0xC050 ∷ gives none ∷ [])
+    -- M16 remote IRR survives a level write and a fall of the wire; the present vector frees it, masked or not, asserted or not
     ∷ (entry 15 0x8061 ++ wire 15 1 ∷ gives (pin 15 0x61 0 0) ∷ keeps 0x8062 0xC062 ++ end 0x61 ∷ gives none ∷ end 0x62
     ∷ gives (pin 15 0x62 0 0) ∷ wire 15 0 ∷ reads get 0xC062 ∷ wire 15 1 ∷ gives none
     ∷ wire 15 0 ∷ keeps 0x18062 0x1C062 ++ end 0x62 ∷ reads get 0x18062 ∷ keeps 0x8062 0x8062 ++ wire 15 1 ∷ gives (pin 15 0x62 0 0) ∷ [])

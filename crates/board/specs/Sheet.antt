@@ -95,5 +95,5 @@ unfolding sheet answers tab firstFrom allFrom modeOf remoteOf levelOf maskedOf w
 bench = refl
 
 pub reset-formed : wellFormed resetBoard ≡ true
-unfolding tab allFrom levelOf wordOk pinOk entriesOk levelsOk controllerFormed resetTimer driving flagsFit narrowFits timerFormed resetTimers timersFormed drivesOf highAt wellFormed
+unfolding tab allFrom remoteOf levelOf wordOk pinOk entriesOk levelsOk controllerFormed resetTimer driving flagsFit narrowFits timerFormed resetTimers timersFormed drivesOf highAt wellFormed
 reset-formed = refl

@@ -5,3 +5,4 @@ pub mod Held
 pub mod Gained
 pub mod ReadBack
 pub mod Stays
+pub mod Remote

@@ -92,7 +92,7 @@ module _ (c : Controller) where
     entry-put v = rw (ne-eqb i 0 (λ q. omega arith), le-ltb i 0x10 h, lt-leb 0x40 i l)
 
   module _ (n : ℕ) (l : n < 24) where
-    low-read : shownAt c (0x10 + 2 * n) ≡ lowShown (c .entries) n
+    pub low-read : shownAt c (0x10 + 2 * n) ≡ lowShown (c .entries) n
     low-read = entry-read (0x10 + 2 * n) (omega arith) (omega arith) ∙ rw (low-even n, low-half n)
 
     high-read : shownAt c (0x11 + 2 * n) ≡ highShown (c .entries) n
@@ -124,7 +124,7 @@ module _ (c : Controller) (v : ℕ) where
   module _ (z : Sized (c .entries)) (n : ℕ) (l : n < 24) where
     pub low-word-back :
         shownAt (writtenAt c (0x10 + 2 * n) v) (0x10 + 2 * n)
-        ≡ word v (boolByte (eligibleAt (writtenAt c (0x10 + 2 * n) v .entries) n)) (shownAt c (0x10 + 2 * n) / 2 ^ 14 % 2)
+        ≡ word v (boolByte (eligibleAt (writtenAt c (0x10 + 2 * n) v .entries) n)) (v / 2 ^ 15 % 2 * (shownAt c (0x10 + 2 * n) / 2 ^ 14 % 2))
     low-word-back =
         rw (low-put c n l v, low-read c n l) (low-read (withEntries c (lowWritten (c .entries) n v)) n l ∙ low-back (c .entries) z n l v)
 

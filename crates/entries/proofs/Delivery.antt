@@ -18,7 +18,8 @@ use Rattle.entries.specs.Pin.{asserted, eligible}
 use Rattle.entries.specs.Inner.{takenWord, heldTaken}
 use Rattle.entries.specs.Table.{lowAt, levelAt, heldAt, withLow, withHeld, eligibleAt, entriesOk, firstEligible, ended, taken, lowShown, lowWritten}
 use Rattle.entries.proofs.Sized.{Sized}
-use Rattle.entries.proofs.Formed.{level-with, level-written, pins-good}
+use Rattle.entries.proofs.Written.{level-written}
+use Rattle.entries.proofs.Formed.{level-with, pins-good}
 
 -- ---- the lowest-numbered eligible pin
 

@@ -4,33 +4,37 @@ use mathlib.Core.Bool.{Bool, true, false, not, cond, _&&_}
 use mathlib.Core.List.{List}
 use Prim.Native.Nat.{ℕ, _+_, _-_, _*_, _/_, _%_, _<_}
 use native.Mathlib.Omega.{arith}
-use native.Mathlib.Nat.{mod-lt}
-use lib.Dec.{eqb, leb, lit<}
+use lib.Dec.{eqb, leb}
 use lib.ListN.{getD, set, getD-replicate}
 use lib.Seq.{set-getD}
-use borrow.Author.Tests.{eq-eqb, eqb-true}
+use borrow.Author.Tests.{eq-eqb, eqb-true, not-true}
 use Rattle.pins.specs.Pins.{allFrom, pins}
 use Rattle.pins.proofs.Bools.{clash, and-left, and-right, and-both, not-both, not-both-of}
 use Rattle.pins.proofs.Every.{every-at, every-of}
 use Rattle.pins.proofs.Fill.{getD-tab}
 use Rattle.pins.proofs.Store.{getD-set}
 use Rattle.entries.specs.declared.Entries.{Entries}
-use Rattle.entries.specs.Word.{vectorOf, levelOf, maskedOf, withRemote, withoutRemote, writable, written, wordOk}
+use Rattle.entries.specs.Word.{vectorOf, remoteOf, levelOf, maskedOf, withRemote, withoutRemote, written, wordOk}
 use Rattle.entries.specs.Pin.{asserted, makesEdge, heldAfter, endedWord, pinOk}
 use Rattle.entries.specs.Table.{resetEntries, lowAt, levelAt, heldAt, heldOn, withLow, withHeld, withLevel, pinOkAt, entriesOk, levelsOk, wired, ended, taken, lowWritten, highWritten, heldAfterWrite}
 use Rattle.entries.proofs.Sized.{Sized}
+use Rattle.entries.proofs.Written.{status-written, unused-written, level-written, remote-cleared}
 
 -- what `pinOk` tests
 pub record PinGood (w level held : ℕ) : Type 0 where
   pub status : w / 4096 % 2 ≡ 0
   pub unused : w / 131072 ≡ 0
+  pub remote : levelOf w ≡ false → remoteOf w ≡ false
   pub edge : levelOf w ≡ true → eqb held 1 ≡ false
   pub level-fits : leb level 1 ≡ true
   pub held-fits : leb held 1 ≡ true
 
 module _ (w level held : ℕ) where
+  abbrev p0 : Bool
+  p0 = eqb (w / 4096 % 2) 0 && eqb (w / 131072) 0
+
   abbrev p1 : Bool
-  p1 = eqb (w / 4096 % 2) 0 && eqb (w / 131072) 0
+  p1 = p0 && not (not (levelOf w) && remoteOf w)
 
   abbrev p2 : Bool
   p2 = not (levelOf w && eqb held 1)
@@ -41,9 +45,11 @@ module _ (w level held : ℕ) where
       let e3 = and-left (p1 && p2 && leb level 1) (leb held 1) e in
       let e2 = and-left (p1 && p2) (leb level 1) e3 in
       let e1 = and-left p1 p2 e2 in
+      let e0 = and-left p0 (not (not (levelOf w) && remoteOf w)) e1 in
       record {
-        status = eqb-true (w / 4096 % 2) 0 (and-left (eqb (w / 4096 % 2) 0) (eqb (w / 131072) 0) e1);
-        unused = eqb-true (w / 131072) 0 (and-right (eqb (w / 4096 % 2) 0) (eqb (w / 131072) 0) e1);
+        status = eqb-true (w / 4096 % 2) 0 (and-left (eqb (w / 4096 % 2) 0) (eqb (w / 131072) 0) e0);
+        unused = eqb-true (w / 131072) 0 (and-right (eqb (w / 4096 % 2) 0) (eqb (w / 131072) 0) e0);
+        remote = λ t. not-both (not (levelOf w)) (remoteOf w) (and-right p0 (not (not (levelOf w) && remoteOf w)) e1) (ap not t);
         edge = not-both (levelOf w) (eqb held 1) (and-right p1 p2 e2);
         level-fits = and-right (p1 && p2) (leb level 1) e3;
         held-fits = and-right (p1 && p2 && leb level 1) (leb held 1) e;
@@ -55,7 +61,9 @@ module _ (w level held : ℕ) where
       and-both
       (and-both
       (and-both
+      (and-both
       (and-both (eq-eqb (w / 4096 % 2) 0 (g .status)) (eq-eqb (w / 131072) 0 (g .unused)))
+      (not-both-of (not (levelOf w)) (remoteOf w) (λ t. g .remote (not-true (levelOf w) t))))
       (not-both-of (levelOf w) (eqb held 1) (g .edge)))
       (g .level-fits))
       (g .held-fits)
@@ -64,6 +72,9 @@ module _ (w level held : ℕ) where
 
 low-12 : (w : ℕ) → (w - w / 16384 % 2 * 16384) / 4096 % 2 ≡ w / 4096 % 2
 low-12 w = omega arith
+
+low-14 : (w : ℕ) → (w - w / 16384 % 2 * 16384) / 16384 % 2 ≡ 0
+low-14 w = omega arith
 
 low-15 : (w : ℕ) → (w - w / 16384 % 2 * 16384) / 32768 ≡ w / 32768
 low-15 w = omega arith
@@ -88,6 +99,10 @@ pub level-with : (w : ℕ) → levelOf (withRemote w) ≡ levelOf w
 unfolding levelOf withRemote
 level-with w = rw (set-15 w)
 
+remote-without : (w : ℕ) → remoteOf (withoutRemote w) ≡ false
+unfolding remoteOf withoutRemote
+remote-without w = rw (low-14 w)
+
 module _ {w level held : ℕ} (g : PinGood w level held) where
   without-good : PinGood (withoutRemote w) level held
   unfolding withoutRemote
@@ -95,24 +110,27 @@ module _ {w level held : ℕ} (g : PinGood w level held) where
       record {
         status = low-12 w ∙ g .status;
         unused = low-17 w ∙ g .unused;
+        remote = λ t. remote-without w;
         edge = λ e. g .edge (sym (level-without w) ∙ e);
         level-fits = g .level-fits;
         held-fits = g .held-fits;
       }
 
-  with-good : PinGood (withRemote w) level held
+  -- a level entry's remote IRR is set
+  with-good : levelOf w ≡ true → PinGood (withRemote w) level held
   unfolding withRemote
-  with-good =
+  with-good l =
       record {
         status = set-12 w ∙ g .status;
         unused = set-17 w ∙ g .unused;
+        remote = λ t. clash (sym l ∙ sym (level-with w) ∙ t);
         edge = λ e. g .edge (sym (level-with w) ∙ e);
         level-fits = g .level-fits;
         held-fits = g .held-fits;
       }
 
   drop-good : PinGood w level 0
-  drop-good = record { status = g .status; unused = g .unused; edge = λ e. refl; level-fits = g .level-fits; held-fits = refl }
+  drop-good = record { status = g .status; unused = g .unused; remote = g .remote; edge = λ e. refl; level-fits = g .level-fits; held-fits = refl }
 
   ended-good : (v : ℕ) → PinGood (endedWord w v) level held
   unfolding endedWord
@@ -140,6 +158,7 @@ module _ {w level held : ℕ} (g : PinGood w level held) where
           record {
             status = g .status;
             unused = g .unused;
+            remote = g .remote;
             edge = λ t. rw (e, none (maskedOf w) (not (asserted w level)) (asserted w after)) (g .edge t);
             level-fits = l;
             held-fits = fits (not (maskedOf w) && not (levelOf w) && not (asserted w level) && asserted w after);
@@ -148,6 +167,7 @@ module _ {w level held : ℕ} (g : PinGood w level held) where
           record {
             status = g .status;
             unused = g .unused;
+            remote = g .remote;
             edge = λ t. clash (sym t ∙ e);
             level-fits = l;
             held-fits = fits (not (maskedOf w) && not (levelOf w) && not (asserted w level) && asserted w after);
@@ -155,50 +175,20 @@ module _ {w level held : ℕ} (g : PinGood w level held) where
 
 -- ---- a write
 
-pub fields-12 : (m a b d : ℕ) → m < 4096 → (m + a * 8192 + b * 32768 + d * 16384) / 4096 % 2 ≡ 0
-fields-12 m a b d h = omega arith
-
-fields-15 : (m a b d : ℕ) → m < 4096 → a < 2 → d < 2 → (m + a * 8192 + b * 32768 + d * 16384) / 32768 ≡ b
-fields-15 m a b d h i k = omega arith
-
-fields-17 : (m a b d : ℕ) → m < 4096 → a < 2 → b < 4 → d < 2 → (m + a * 8192 + b * 32768 + d * 16384) / 131072 ≡ 0
-fields-17 m a b d h i j k = omega arith
-
-two-of-four : (n : ℕ) → n % 4 % 2 ≡ n % 2
-two-of-four n = omega arith
-
-module _ (w v : ℕ) where
-  m-lt : v % 4096 < 4096
-  m-lt = mod-lt v (lit< tt)
-
-  a-lt : v / 8192 % 2 < 2
-  a-lt = mod-lt (v / 8192) (lit< tt)
-
-  b-lt : v / 32768 % 4 < 4
-  b-lt = mod-lt (v / 32768) (lit< tt)
-
-  d-lt : w / 16384 % 2 < 2
-  d-lt = mod-lt (w / 16384) (lit< tt)
-
-  -- the trigger after a write is the one written
-  pub level-written : levelOf (written w v) ≡ levelOf v
-  unfolding levelOf written writable
-  level-written = rw (fields-15 (v % 4096) (v / 8192 % 2) (v / 32768 % 4) (w / 16384 % 2) m-lt a-lt d-lt, two-of-four (v / 32768))
-
-  written-good : (level held : ℕ) → leb level 1 ≡ true → leb held 1 ≡ true → PinGood (written w v) level (heldAfterWrite (written w v) held)
-  unfolding written writable
-  written-good level held l h =
-      record {
-        status = fields-12 (v % 4096) (v / 8192 % 2) (v / 32768 % 4) (w / 16384 % 2) m-lt;
-        unused = fields-17 (v % 4096) (v / 8192 % 2) (v / 32768 % 4) (w / 16384 % 2) m-lt a-lt b-lt d-lt;
-        edge = λ t. ap (λ (b : Bool). eqb (cond b 0 held) 1) t;
-        level-fits = l;
-        held-fits = fits (levelOf (written w v));
-      }
-    where
-      fits : (b : Bool) → leb (cond b 0 held) 1 ≡ true
-      fits true = refl
-      fits false = h
+written-good : (w v level held : ℕ) → leb level 1 ≡ true → leb held 1 ≡ true → PinGood (written w v) level (heldAfterWrite (written w v) held)
+written-good w v level held l h =
+    record {
+      status = status-written w v;
+      unused = unused-written w v;
+      remote = λ t. remote-cleared w v (sym (level-written w v) ∙ t);
+      edge = λ t. ap (λ (b : Bool). eqb (cond b 0 held) 1) t;
+      level-fits = l;
+      held-fits = fits (levelOf (written w v));
+    }
+  where
+    fits : (b : Bool) → leb (cond b 0 held) 1 ≡ true
+    fits true = refl
+    fits false = h
 
 -- ---- the table
 
@@ -212,7 +202,7 @@ unfolding levelOf
 reset-level i l = ap levelOf (getD-replicate {A = ℕ} 24 i 0x10000 0 l)
 
 pub reset-ok : entriesOk resetEntries ≡ true
-unfolding entriesOk allFrom pinOk wordOk levelOf
+unfolding entriesOk allFrom pinOk wordOk levelOf remoteOf
 reset-ok = refl
 
 pub levels-at : (l : List ℕ) → levelsOk l ≡ true → (i : ℕ) → i < 24 → leb (getD l i 0) 1 ≡ true
@@ -271,12 +261,12 @@ module _ (e : Entries) (ok : entriesOk e ≡ true) where
 
     pub taken-ok : (i : ℕ) → i < 24 → entriesOk (taken e i) ≡ true
     unfolding taken
-    taken-ok i l = go (levelOf (lowAt e i))
+    taken-ok i l = go (levelOf (lowAt e i)) refl
       where
-        go : (b : Bool) → entriesOk (cond b (withLow e (set (e .low) i (withRemote (lowAt e i)))) (withHeld e (set (e .held) i 0))) ≡ true
-        go true =
+        go : (b : Bool) → levelOf (lowAt e i) ≡ b → entriesOk (cond b (withLow e (set (e .low) i (withRemote (lowAt e i)))) (withHeld e (set (e .held) i 0))) ≡ true
+        go true t =
             ap (λ (h : List ℕ). entriesOk (withHeld (withLow e (set (e .low) i (withRemote (lowAt e i)))) h)) (sym (set-getD (e .held) i 0))
-            ∙ one-ok i (withRemote (lowAt e i)) (heldAt e i) l (with-good (pins-good i l))
-        go false =
+            ∙ one-ok i (withRemote (lowAt e i)) (heldAt e i) l (with-good (pins-good i l) t)
+        go false t =
             ap (λ (w : List ℕ). entriesOk (withHeld (withLow e w) (set (e .held) i 0))) (sym (set-getD (e .low) i 0))
             ∙ one-ok i (lowAt e i) 0 l (drop-good (pins-good i l))

@@ -1,5 +1,6 @@
 pub mod Fields
 pub mod Sized
+pub mod Written
 pub mod Formed
 pub mod Pulse
 pub mod Apart
@@ -9,4 +10,5 @@ pub mod One
 pub mod Strikes
 pub mod Edges
 pub mod ReadBack
+pub mod Remote
 pub mod Stays

@@ -1,18 +1,18 @@
 -- An entry's two words: what a read gives after a write, bit by bit, and what a delivery takes from them.
 use mathlib.Core.Path.{_≡_, refl, sym, ap, _∙_}
 use mathlib.Core.Bool.{Bool, true, false, cond}
-use Prim.Native.Nat.{ℕ, _+_, _-_, _*_, _/_, _%_, _^_, _<_}
+use Prim.Native.Nat.{ℕ, zero, suc, _+_, _-_, _*_, _/_, _%_, _^_, _<_}
 use native.Mathlib.Omega.{arith}
-use native.Mathlib.Nat.{mod-lt, div-div-eq-div-mul}
+use native.Mathlib.Nat.{mod-lt, zero-mul, one-mul, div-div-eq-div-mul}
 use mir.Val.{boolByte}
-use lib.Dec.{lit<}
+use lib.Dec.{eqb, lit<}
 use lib.Seq.{getD-set-same, getD-set-other}
 use Rattle.answers.specs.declared.Answer.the-variants as answer
 use Rattle.entries.specs.declared.Entries.{Entries}
-use Rattle.entries.specs.Word.{writable, written, shown}
+use Rattle.entries.specs.Word.{levelOf, writable, written, shown}
 use Rattle.entries.specs.Table.{lowAt, destinationAt, heldAt, destinationOf, eligibleAt, given, lowShown, highShown, lowWritten, highWritten, heldAfterWrite}
 use Rattle.entries.proofs.Sized.{Sized}
-use Rattle.entries.proofs.Formed.{fields-12}
+use Rattle.entries.proofs.Written.{fields-12}
 
 -- ---- the bits of a low word as it is shown
 
@@ -40,10 +40,16 @@ module _ (w : ℕ) where
   shown-logical : (b : Bool) → shown w b / 2 ^ 11 % 2 ≡ w / 2 ^ 11 % 2
   shown-logical b = sym (logical-of (shown w b)) ∙ ap (λ (x : ℕ). x / 2048) (low-bits b) ∙ logical-of w
 
-  shown-remote : (b : Bool) → shown w b / 2 ^ 14 % 2 ≡ w / 2 ^ 14 % 2
+  high-bits : (k : ℕ) (b : Bool) → shown w b / 8192 / k ≡ w / 8192 / k
   unfolding shown
-  shown-remote true = ap (λ (x : ℕ). x % 2) (sym (div-div-eq-div-mul (w - w / 4096 % 2 * 4096 + 4096) 8192 2) ∙ ap (λ (x : ℕ). x / 2) (shown-above w) ∙ div-div-eq-div-mul w 8192 2)
-  shown-remote false = refl
+  high-bits k true = ap (λ (x : ℕ). x / k) (shown-above w)
+  high-bits k false = refl
+
+  pub shown-remote : (b : Bool) → shown w b / 2 ^ 14 % 2 ≡ w / 2 ^ 14 % 2
+  shown-remote b = ap (λ (x : ℕ). x % 2) (sym (div-div-eq-div-mul (shown w b) 8192 2) ∙ high-bits 2 b ∙ div-div-eq-div-mul w 8192 2)
+
+  pub shown-level : (b : Bool) → shown w b / 2 ^ 15 % 2 ≡ w / 2 ^ 15 % 2
+  shown-level b = ap (λ (x : ℕ). x % 2) (sym (div-div-eq-div-mul (shown w b) 8192 4) ∙ high-bits 4 b ∙ div-div-eq-div-mul w 8192 4)
 
 -- ---- a written word, field by field
 
@@ -56,7 +62,7 @@ status-set x k h = omega arith
 in-place : (m a l k r s : ℕ) → m + a * 8192 + (l + k * 2) * 32768 + r * 16384 + s * 4096 ≡ m + s * 4096 + a * 8192 + r * 16384 + l * 32768 + k * 65536
 in-place m a l k r s = omega arith
 
--- bits 11:0, 13, 15 and 16 of the value, bit 12 where the pin is eligible, bit 14 of the word before
+-- bits 11:0, 13, 15 and 16 of the value, bits 12 and 14 as given
 abbrev pub word : ℕ → ℕ → ℕ → ℕ
 word v status remote = v % 2 ^ 12 + status * 2 ^ 12 + v / 2 ^ 13 % 2 * 2 ^ 13 + remote * 2 ^ 14 + v / 2 ^ 15 % 2 * 2 ^ 15 + v / 2 ^ 16 % 2 * 2 ^ 16
 
@@ -76,9 +82,10 @@ module _ (v s r : ℕ) where
   pub word-logical : word v s r / 2 ^ 11 % 2 ≡ v / 2 ^ 11 % 2
   word-logical = sym (logical-of (word v s r)) ∙ ap (λ (x : ℕ). x / 2048) word-below ∙ logical-of v
 
-shown-written : (w v : ℕ) (b : Bool) → shown (written w v) b ≡ word v (boolByte b) (w / 2 ^ 14 % 2)
-unfolding shown written writable
-shown-written w v b = go b ∙ ap (λ (y : ℕ). m + a * 8192 + y * 32768 + r * 16384 + boolByte b * 4096) bits ∙ in-place m a (v / 32768 % 2) (v / 65536 % 2) r (boolByte b)
+-- bit 12 where the pin is eligible; bit 14 of the word before if bit 15 of the value is 1, and otherwise 0
+shown-written : (w v : ℕ) (b : Bool) → shown (written w v) b ≡ word v (boolByte b) (v / 2 ^ 15 % 2 * (w / 2 ^ 14 % 2))
+unfolding shown written writable levelOf
+shown-written w v b = ap (λ (y : ℕ). shown (writable v + y * 16384) b) (by-level (v / 32768 % 2) (mod-lt (v / 32768) (lit< tt))) ∙ go b ∙ ap (λ (y : ℕ). m + a * 8192 + y * 32768 + r * 16384 + boolByte b * 4096) bits ∙ in-place m a (v / 32768 % 2) (v / 65536 % 2) r (boolByte b)
   where
     m : ℕ
     m = v % 4096
@@ -87,10 +94,15 @@ shown-written w v b = go b ∙ ap (λ (y : ℕ). m + a * 8192 + y * 32768 + r * 
     a = v / 8192 % 2
 
     r : ℕ
-    r = w / 16384 % 2
+    r = v / 32768 % 2 * (w / 16384 % 2)
 
     x : ℕ
     x = m + a * 8192 + v / 32768 % 4 * 32768 + r * 16384
+
+    by-level : (l : ℕ) → l < 2 → cond (eqb l 1) (w / 16384 % 2) 0 ≡ l * (w / 16384 % 2)
+    by-level zero h = sym (zero-mul (w / 16384 % 2))
+    by-level (suc zero) h = sym (one-mul (w / 16384 % 2))
+    by-level (suc (suc l)) h = absurd (omega arith)
 
     bits : v / 32768 % 4 ≡ v / 32768 % 2 + v / 65536 % 2 * 2
     bits = pair (v / 32768) ∙ ap (λ (y : ℕ). v / 32768 % 2 + y % 2 * 2) (div-div-eq-div-mul v 32768 2)
@@ -103,17 +115,17 @@ shown-written w v b = go b ∙ ap (λ (y : ℕ). m + a * 8192 + y * 32768 + r * 
     go false = omega arith
 
 module _ (e : Entries) (z : Sized e) (n : ℕ) (l : n < 24) (v : ℕ) where
-  low-at : lowAt (lowWritten e n v) n ≡ written (lowAt e n) v
+  pub low-at : lowAt (lowWritten e n v) n ≡ written (lowAt e n) v
   unfolding lowWritten
   low-at = getD-set-same (e .low) n (written (lowAt e n) v) 0 (rw (z .low) l)
 
   -- a low word after a write to it
-  pub low-back : lowShown (lowWritten e n v) n ≡ word v (boolByte (eligibleAt (lowWritten e n v) n)) (lowShown e n / 2 ^ 14 % 2)
+  pub low-back : lowShown (lowWritten e n v) n ≡ word v (boolByte (eligibleAt (lowWritten e n v) n)) (v / 2 ^ 15 % 2 * (lowShown e n / 2 ^ 14 % 2))
   unfolding lowShown
   low-back =
       ap (λ (w : ℕ). shown w b) low-at
       ∙ shown-written (lowAt e n) v b
-      ∙ ap (word v (boolByte b)) (sym (shown-remote (lowAt e n) (eligibleAt e n)))
+      ∙ ap (λ (r : ℕ). word v (boolByte b) (v / 2 ^ 15 % 2 * r)) (sym (shown-remote (lowAt e n) (eligibleAt e n)))
     where
       b : Bool
       b = eligibleAt (lowWritten e n v) n

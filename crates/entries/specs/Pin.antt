@@ -25,6 +25,7 @@ eligible w level held =
 unfoldable pub endedWord : ℕ → ℕ → ℕ
 endedWord w v = cond (levelOf w && eqb (vectorOf w) v) (withoutRemote w) w
 
--- well formed: writable bits only, beside remote IRR; no edge held on a level pin; the level and the held edge are 0 or 1
+-- well formed: writable bits only, beside remote IRR, which an edge entry has at 0; no edge held on a level pin; the level and the held edge
+-- are 0 or 1
 unfoldable pub pinOk : ℕ → ℕ → ℕ → Bool
 pinOk w level held = wordOk w && not (levelOf w && eqb held 1) && leb level 1 && leb held 1

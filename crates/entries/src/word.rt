@@ -15,13 +15,11 @@ impl Low {
     pub const MODE: u32 = 0x7;
     // 11 logical destination, writable
     pub const LOGICAL_AT: u32 = 11;
-    // 12 delivery status, read only: 1 exactly for an eligible pin
-    pub const STATUS_AT: u32 = 12;
-    // it alone
+    // 12 delivery status, read only: 1 exactly for an eligible pin; it alone
     pub const STATUS: u32 = 0x0000_1000;
     // 13 active low, writable
     pub const ACTIVE_LOW_AT: u32 = 13;
-    // 14 remote IRR, read only: it survives every write
+    // 14 remote IRR, read only: an edge entry's is 0
     pub const REMOTE_AT: u32 = 14;
     // it alone, and all but it
     pub const REMOTE: u32 = 0x0000_4000;
@@ -32,12 +30,13 @@ impl Low {
     // 16 mask, writable
     pub const MASKED_AT: u32 = 16;
     // 31:17 not used, 0
-    pub const UNUSED_AT: u32 = 17;
 
     // ---- whole words
 
     // what a write takes: 16:15, 13, 11:0
     pub const WRITABLE: u32 = 0x0001_afff;
+    // what an edge entry's stored word has not: 31:17, 14, 12
+    pub const NOT_STORED: u32 = 0xfffe_5000;
     // masked, all else 0
     pub const RESET: u32 = 0x0001_0000;
 
@@ -103,11 +102,17 @@ impl Low {
         self.0 & Low::NOT_REMOTE
     }
 
-    // The word after a write of a value: the writable bits of it, and remote IRR as it was.
+    // The word after a write: the value's writable bits. Remote IRR is 0 if they leave the entry edge, and as it was if
+    // they leave it level.
     pub fn written(self, value: u32) -> u32
         ensures { λ r. ⌜ r ≡ written (self .0) value ⌝ }
     {
-        (value & Low::WRITABLE) | (self.0 & Low::REMOTE)
+        let taken = value & Low::WRITABLE;
+        let kept = self.0 & Low::REMOTE;
+        if !Low(value).is_level() {
+            return taken;
+        }
+        taken | kept
     }
 
     pub fn shown(self, eligible: bool) -> u32
@@ -120,9 +125,12 @@ impl Low {
         }
     }
 
+    // Bit 15, moved to 14's place, takes 14 out of the mask: a level entry may have remote IRR. A test of its own for it
+    // made each call a third longer (docs/BENCHMARKS.md).
     pub fn word_ok(self) -> bool
         ensures { λ r. ⌜ r ≡ wordOk (self .0) ⌝ }
     {
-        (self.bit(Low::STATUS_AT) == 0) & (self.0 >> Low::UNUSED_AT == 0)
+        let allowed = (self.0 >> 1) & Low::REMOTE;
+        self.0 & (Low::NOT_STORED - allowed) == 0
     }
 }

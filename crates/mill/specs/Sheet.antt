@@ -119,6 +119,10 @@ sheet =
     ∷ (told 1 running
     ∷ entry 1 0x21 running ++ does (set 0x100 0x204) running ∷ does (set 0x108 3) running ∷ does (set 0x010 1) running
     ∷ says (millcall.Board (call.Advance 2)) (fired 0 0 0) running ∷ says (millcall.Board (call.Advance 1)) (fired 1 0 0) asked ∷ [])
+    -- P12 the entry is written edge and then back as level: remote IRR is 0, but that is no end of interrupt
+    ∷ (told 1 running
+    ∷ entry 1 0x21 running ++ wire 1 1 asked ∷ entry 1 0x8021 asked ++ gives 1 0x21 taken ∷ gives-none taken ∷ entry 1 0x21 taken ++ entry 1 0x8021 taken ++ gives 1 0x21 taken
+    ∷ ends 0x21 paused ∷ [])
     ∷ []
 
 -- the statement computes, so it opens every definition down to the ground

@@ -90,11 +90,15 @@ fn writable(value: u32) -> u32
     value % BIT_12 + value / BIT_13 % 2 * BIT_13 + value / BIT_15 % 4 * BIT_15
 }
 
-// A write to the low word. "Remote IRR survives every write."
+// "… a low-word write that leaves the entry edge sets remote IRR to 0; one that leaves it level keeps the bit."
 pub(crate) fn written(low: u32, value: u32) -> u32
     ensures { λ r. ⌜ r ≡ written low value ⌝ }
 {
-    writable(value) + low / BIT_14 % 2 * BIT_14
+    if is_level(value) {
+        writable(value) + low / BIT_14 % 2 * BIT_14
+    } else {
+        writable(value)
+    }
 }
 
 // "Bit 12 reads 1 exactly for an eligible pin."
@@ -108,9 +112,10 @@ pub(crate) fn shown(low: u32, eligible: bool) -> u32
     }
 }
 
-// "… stored entry words contain writable bits only, beside remote IRR; …"
+// "… stored entry words contain writable bits only, beside remote IRR; …" "An edge entry now always reads bit 14 as 0,
+// and a state where it doesn't is not well formed."
 pub(crate) fn word_ok(low: u32) -> bool
     ensures { λ r. ⌜ r ≡ wordOk low ⌝ }
 {
-    (low / BIT_12 % 2 == 0) & (low / BIT_17 == 0)
+    (low / BIT_12 % 2 == 0) & (low / BIT_17 == 0) & !(!is_level(low) & is_remote(low))
 }

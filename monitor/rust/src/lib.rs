@@ -81,7 +81,7 @@ pub struct Timers {
 #[repr(C)]
 #[derive(Clone, Copy, Debug, PartialEq, Eq, Hash)]
 pub struct Entries {
-    /// Low words. Bit 12 is never stored.
+    /// Low words. Bit 12 is never stored, and bit 14 only if bit 15 is 1.
     pub low: [u32; 24],
     /// Bits 31:24 of the high words.
     pub destination: [u8; 24],

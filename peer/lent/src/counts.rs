@@ -1,14 +1,15 @@
 //! What the calls were, and what they answered.
 
+use lent::irr;
 use peer::abi::Call;
 use peer::board::TIMER_BLOCK;
 use peer::sequence::{Kind, Step};
 
 /// The paper's numbers that a call can answer: 0 to 5.
 const NUMBERS: usize = 6;
+const CALLS: [&str; 7] = ["reset", "read", "write", "wire", "end", "advance", "deliver"];
 
 /// Counts of calls.
-#[derive(Default)]
 pub struct Counts {
     kinds: [u64; Kind::ALL.len()],
     numbers: [u64; NUMBERS],
@@ -18,6 +19,7 @@ pub struct Counts {
     /// Calls behind such a reset in the same sequence.
     mended: u64,
     halves: Halves,
+    irr: irr::Counts,
 }
 
 /// Counts of 4-byte accesses to the timers.
@@ -44,12 +46,27 @@ impl Halves {
 }
 
 impl Counts {
+    /// Nothing came yet.
+    pub fn new() -> Counts {
+        Counts {
+            kinds: [0; Kind::ALL.len()],
+            numbers: [0; NUMBERS],
+            resets: 0,
+            mending: 0,
+            mended: 0,
+            halves: Halves::default(),
+            irr: irr::Counts::new(&CALLS),
+        }
+    }
+
     /// Counts a call of a sequence; `mended` if an ill-formed board was reset before it.
     pub fn note(&mut self, kind: Kind, step: &Step, mended: bool) {
         self.kinds[kind as usize] += 1;
         self.numbers[step.reply.number as usize] += 1;
         self.mended += u64::from(mended);
         self.halves.note(step);
+        let boards = (&step.before, &step.after);
+        self.irr.note(place(step.call), Some(step.call), boards, step.reply.number);
         if step.call == Call::Reset {
             self.resets += 1;
             self.mending += u64::from(!step.before.is_well_formed());
@@ -73,6 +90,20 @@ impl Counts {
             ("half writes refused for their value", self.halves.big),
         ];
         rows.extend(others.map(|(text, count)| (text.to_string(), count)));
+        rows.extend(self.irr.rows());
         rows
+    }
+}
+
+/// A call's place in the list.
+fn place(call: Call) -> usize {
+    match call {
+        Call::Reset => 0,
+        Call::Read { .. } => 1,
+        Call::Write { .. } => 2,
+        Call::Wire { .. } => 3,
+        Call::End { .. } => 4,
+        Call::Advance { .. } => 5,
+        Call::Deliver => 6,
     }
 }

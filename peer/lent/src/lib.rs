@@ -1,6 +1,7 @@
 //! The library's lent entries, called safely.
 
 pub mod check;
+pub mod irr;
 
 use peer::abi::mill::{Mill, MillCall};
 use peer::abi::plain::PlainCall;

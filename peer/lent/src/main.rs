@@ -27,7 +27,7 @@ fn main() -> ExitCode {
 }
 
 fn check(seed: u64, calls: u64) -> ExitCode {
-    let (mut tally, mut counts) = (Tally::default(), Counts::default());
+    let (mut tally, mut counts) = (Tally::default(), Counts::new());
     let mut maker = Maker::new(seed);
     while tally.goes_on(calls) {
         for sequence in maker.round() {

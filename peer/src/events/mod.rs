@@ -2,6 +2,7 @@
 //! it is meant to reach shows up.
 
 mod halves;
+mod irr;
 mod list;
 mod registers;
 mod salvage;
@@ -140,22 +141,34 @@ events! {
     HeldMasked: "held edge survives masking", "vac";
     HeldUnmasked: "held edge unmasked again", "vc";
     PolarityAsserts: "polarity write asserts an unmasked edge pin", "vac";
-    IrrOnEdge: "remote IRR on an edge entry", "vac";
-    IrrBack: "remote IRR back on a level entry", "vc";
     StatusBitRead: "bit 12 read as 1", "vac";
     IrrRead: "bit 14 read as 1", "vac";
+    LevelWriteKeeps: "level write keeps remote IRR", "vac";
+    LevelWriteKeepsVector: "level write keeps remote IRR, another vector", "vac";
+    LevelWriteKeepsMasked: "level write keeps remote IRR, masked", "vac";
+    EdgeWriteFrees: "edge write clears remote IRR, unmasked", "vac";
+    EdgeWriteFreesMasked: "edge write clears remote IRR, masked", "vac";
+    EdgeWriteFreesMode: "edge write clears remote IRR, another mode", "vac";
+    EdgeWriteFreesVector: "edge write clears remote IRR, another vector", "vac";
+    EdgeWriteFreesOne: "edge write clears remote IRR: another pin, same vector", "vc";
+    FreedRead: "edge entry read after its remote IRR was cleared", "vac";
+    EdgeAndBack: "edge and back, with no end between", "vac";
+    EdgeAndBackIdle: "edge and back, not asserted", "vac";
+    FreedDelivered: "edge and back: level delivered without an end", "vac";
+    FreedDeliveredLater: "edge and back, not asserted: delivered once asserted", "vc";
+    FreedEdgeDelivered: "level delivered, edge write, edge delivered", "vc";
     DeliverEdge: "edge delivered", "vatc";
     DeliverLevel: "level delivered", "vatc";
     DeliverNone: "no pin eligible", "vatc";
     DeliverLowest: "lowest of several eligible pins", "vatc";
     DeliverPastMode: "delivery past a lower pin with another mode", "vc";
-    DeliverEdgeWithIrr: "edge delivered in spite of remote IRR", "vc";
     DeliverBesideIrr: "level delivered while another pin waits for its end", "vac";
     DeliverEdgeBesideIrr: "edge delivered while a level pin waits for its end", "vac";
     EndSeveral: "end of interrupt frees several pins", "vac";
     EndOne: "end of interrupt frees one pin", "vac";
     EndNothing: "end of interrupt frees nothing", "vac";
-    EndEdgeEntry: "end of interrupt meets remote IRR on an edge entry", "vc";
+    EndFreed: "end of interrupt after an edge write, still edge", "vc";
+    EndFreedLevel: "end of interrupt after edge and back", "vc";
     Refused1: "refused 1", "a";
     Refused2: "refused 2", "a";
     Refused3: "refused 3", "a";

@@ -17,6 +17,7 @@ events! {
     TakenByLevel: "asked becomes taken by a level delivery", "vcp";
     PausedByEnd: "taken becomes paused", "vcp";
     PausedRewritten: "taken becomes paused: the entry has another vector", "cp";
+    PausedFreed: "taken becomes paused: an edge write cleared remote IRR before", "p";
     PausedAfterSecond: "taken becomes paused: delivered again meanwhile", "p";
     RunningMasked: "running: a press on the masked key", "vtcp";
     RunningLevel: "running: the key is delivered as a level pin", "cp";
@@ -44,6 +45,7 @@ events! {
     TakenEndSecond: "taken: an end with a later delivery's vector", "p";
     TakenPress: "taken: a press", "vcp";
     TakenVector: "taken: the key's vector is rewritten", "vcp";
+    TakenFreed: "taken: an edge write clears the key's remote IRR", "cp";
     TakenToLevel: "taken: the key's entry is written level", "vcp";
     PausedPress: "paused: a press", "vcp";
     PausedDelivery: "paused: the key is delivered", "vcp";

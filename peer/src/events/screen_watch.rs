@@ -15,6 +15,8 @@ pub(super) struct ScreenWatcher<'counts> {
     key: u8,
     /// The vector of the last delivery while taken.
     second: Option<u8>,
+    /// An edge write cleared the key's remote IRR while taken.
+    freed: bool,
 }
 
 /// A done record, with the key's pin around it and the stage after it.
@@ -29,7 +31,7 @@ struct Step<'step> {
 
 impl<'counts> ScreenWatcher<'counts> {
     pub(super) fn new(counts: &'counts mut Counts<Event>, mill: Mill, key: u8) -> Self {
-        ScreenWatcher { counts, mill, key, second: None }
+        ScreenWatcher { counts, mill, key, second: None, freed: false }
     }
 
     fn stage(&self) -> Stage {
@@ -102,7 +104,7 @@ impl<'counts> ScreenWatcher<'counts> {
         let Step { old, new, .. } = *step;
         if step.gives_key(key) {
             counts.note(if old.is_level() { TakenByLevel } else { TakenByEdge });
-            self.second = None;
+            (self.second, self.freed) = (None, false);
             return;
         }
         let delivers = *step.record == Record::Deliver;
@@ -128,6 +130,7 @@ impl<'counts> ScreenWatcher<'counts> {
             counts.note(PausedByEnd);
             counts.note_if(old.vector() != vector, PausedRewritten);
             counts.note_if(self.second.is_some(), PausedAfterSecond);
+            counts.note_if(self.freed, PausedFreed);
             return;
         }
         if let Some(to) = step.delivered.filter(|to| to.pin == key) {
@@ -142,6 +145,9 @@ impl<'counts> ScreenWatcher<'counts> {
         counts.note_if(self.second.is_some_and(|second| step.ends(second)), TakenEndSecond);
         counts.note_if(step.is_press() && new.holds_edges(), TakenPress);
         counts.note_if(old.vector() != new.vector(), TakenVector);
+        let freed = old.remote_irr() && !new.is_level();
+        counts.note_if(freed, TakenFreed);
+        self.freed |= freed;
         counts.note_if(!old.is_level() && new.is_level(), TakenToLevel);
     }
 

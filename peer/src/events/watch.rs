@@ -1,6 +1,7 @@
 //! Follows a log record by record; advances are in [`super::ticks`], timer register writes in
-//! [`super::registers`] and [`super::halves`].
+//! [`super::registers`] and [`super::halves`], what becomes of remote IRR in [`super::irr`].
 
+use super::irr::Freed;
 use super::{Counts, Event};
 use crate::board::{Board, CONTROLLER, TIMER_BLOCK};
 use crate::controller::{Controller, DATA};
@@ -19,6 +20,10 @@ pub(super) struct Watcher<'counts> {
     pub(super) halved: [bool; TIMERS],
     /// The half that took bit 6, if its comparator wasn't written since.
     pub(super) first_half: [Option<Part>; TIMERS],
+    /// The vector that the pin was last delivered with as a level pin.
+    pub(super) level_vectors: [u8; PINS],
+    /// An edge write cleared the pin's remote IRR, and it wasn't delivered since.
+    pub(super) freed: [Option<Freed>; PINS],
 }
 
 impl<'counts> Watcher<'counts> {
@@ -29,6 +34,8 @@ impl<'counts> Watcher<'counts> {
             fired: [false; TIMERS],
             halved: [false; TIMERS],
             first_half: [None; TIMERS],
+            level_vectors: [0; PINS],
+            freed: [None; PINS],
         }
     }
 }
@@ -53,7 +60,10 @@ impl Watcher<'_> {
                 }
             }
             Record::Wire { pin, level } => self.watch_wire(&before, usize::from(pin), level == 1),
-            Record::End { vector } => self.watch_end(&before, vector),
+            Record::End { vector } => {
+                self.watch_end(&before);
+                self.watch_freed_end(vector);
+            }
             Record::Advance { ticks } => self.watch_advance(before, ticks),
             Record::Deliver => self.watch_delivery(&before),
         }
@@ -100,10 +110,11 @@ impl Watcher<'_> {
         if window == CONTROLLER && offset == DATA {
             let index = self.board.controller.index as usize;
             self.counts.note_if(matches!(index, 3..0x10 | 0x40..), Event::Unlisted);
-            if let Some(pin) = low_word_pin(&self.board) {
-                let pin = &self.board.controller.pins[pin];
+            if let Some(number) = low_word_pin(&self.board) {
+                let pin = &self.board.controller.pins[number];
                 self.counts.note_if(pin.is_eligible(), Event::StatusBitRead);
                 self.counts.note_if(pin.remote_irr(), Event::IrrRead);
+                self.watch_freed_read(number);
             }
         } else if window == TIMER_BLOCK {
             for n in 0..TIMERS {
@@ -128,9 +139,7 @@ impl Watcher<'_> {
         let edge = !new.is_level() && !new.is_masked();
         let asserts = !old.is_asserted() && new.is_asserted();
         counts.note_if(edge && asserts, Event::PolarityAsserts);
-        counts.note_if(new.remote_irr() && !new.is_level(), Event::IrrOnEdge);
-        let back = new.remote_irr() && new.is_level() && !old.is_level();
-        counts.note_if(back, Event::IrrBack);
+        self.watch_irr(before, number);
     }
 
     fn watch_wire(&mut self, before: &Board, number: usize, level: bool) {
@@ -146,7 +155,7 @@ impl Watcher<'_> {
         counts.note_if(!changed, Event::WireSame);
     }
 
-    fn watch_end(&mut self, before: &Board, vector: u8) {
+    fn watch_end(&mut self, before: &Board) {
         let freed = before
             .controller
             .pins
@@ -160,9 +169,6 @@ impl Watcher<'_> {
             _ => Event::EndSeveral,
         };
         self.counts.note(event);
-        let kept = |pin: &Pin| pin.remote_irr() && !pin.is_level() && pin.vector() == vector;
-        let meets = self.board.controller.pins.iter().any(kept);
-        self.counts.note_if(meets, Event::EndEdgeEntry);
     }
 
     fn watch_delivery(&mut self, before: &Board) {
@@ -177,10 +183,10 @@ impl Watcher<'_> {
         counts.note_if(several, Event::DeliverLowest);
         let other_mode = |pin: &Pin| Pin { low: pin.low & !0x700, ..*pin }.is_eligible();
         counts.note_if(pins[..number].iter().any(other_mode), Event::DeliverPastMode);
-        counts.note_if(pin.remote_irr(), Event::DeliverEdgeWithIrr);
         let waits = pins.iter().any(|pin| pin.is_level() && pin.remote_irr());
         counts.note_if(pin.is_level() && waits, Event::DeliverBesideIrr);
         counts.note_if(!pin.is_level() && waits, Event::DeliverEdgeBesideIrr);
+        self.watch_freed_delivery(number, pin);
     }
 
     /// Edges held on pins with another mode, whatever made them.

@@ -13,6 +13,7 @@ mod pause;
 mod scenes;
 mod short;
 mod states;
+mod stuck;
 mod torn;
 
 pub use damage::{damaged_log, short_damaged_log, Damage};

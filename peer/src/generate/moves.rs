@@ -55,7 +55,7 @@ impl Maker {
 
     pub(super) fn controller_move(&mut self) {
         let pin = u64::from(self.pin());
-        match self.random.below(100) {
+        match self.random.below(104) {
             0..22 => self.rewrite_low(pin),
             22..48 => self.toggle_wire(pin as u8),
             48..64 => {
@@ -70,6 +70,7 @@ impl Maker {
             }
             90..93 => self.read_index(0x11 + 2 * pin),
             93..96 => self.id_move(),
+            96..100 => self.free_stuck_pin(),
             _ => {
                 let index = self.random.below(0x100);
                 let value = self.random.any() & 0xFFFF_FFFF;

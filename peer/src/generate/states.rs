@@ -32,8 +32,11 @@ fn random_pin(random: &mut Random) -> Pin {
     let vector = 0x30 + random.below(4) as u8;
     let mut pin = Pin { destination: random.any() as u8, ..Pin::RESET };
     pin.write_low(low_word(random, vector));
-    pin.low |= sometimes(random, 30, REMOTE_IRR.into()) as u32;
-    pin.held = !pin.is_level() && random.percent(25);
+    if pin.is_level() {
+        pin.low |= sometimes(random, 40, REMOTE_IRR.into()) as u32;
+    } else {
+        pin.held = random.percent(25);
+    }
     pin
 }
 

@@ -1,7 +1,7 @@
 //! Shows that the comparison catches mistakes: each wrong model against the right one, on the
-//! same random logs, or on the same random sequences of calls if the mistake is one in a reset.
-//! A mistake that isn't found is a hole in the generator. Mistakes of a pause screen are in
-//! [`screen`], those of a salvage in [`salvage`].
+//! same random logs, or on the same random sequences of calls if the mistake is one in a reset or in
+//! what is refused with 5, which no log shows. A mistake that isn't found is a hole in the
+//! generator. Mistakes of a pause screen are in [`screen`], those of a salvage in [`salvage`].
 
 mod salvage;
 mod screen;
@@ -17,7 +17,7 @@ use crate::wrong::{self, Mistake};
 
 /// Each mistake has to be found within so many logs.
 pub const LOGS: u64 = 600;
-/// Each mistake in a reset has to be found within so many rounds of sequences.
+/// Each mistake that no log shows has to be found within so many rounds of sequences.
 const ROUNDS: usize = 200;
 /// The effort to shrink a difference.
 const SHRINK_EFFORT: usize = 8_000_000;
@@ -29,10 +29,10 @@ pub fn run(seed: u64, logs: u64) -> bool {
     let mut maker = Maker::new(seed);
     let calls: Vec<Calls> = (0..ROUNDS).flat_map(|_| maker.round()).map(Calls::new).collect();
     let is_found = |mistake: Mistake| {
-        if mistake.is_of_reset() {
-            look_in_calls(mistake, &calls)
-        } else {
+        if mistake.shows_in_logs() {
             look_in_logs(mistake, &cases)
+        } else {
+            look_in_calls(mistake, &calls)
         }
     };
     let found = Mistake::ALL.iter().filter(|&&mistake| is_found(mistake)).count();

@@ -1,8 +1,9 @@
 //! Random calls.
 
-use crate::abi::{kind, Call};
+use crate::abi::{kind, Board, Call};
 use crate::generate::Pace;
 use crate::part::Part;
+use crate::pin::{DELIVERY_MODE, LEVEL, MASK, REMOTE_IRR};
 use crate::random::Random;
 
 /// Some register of the timers, whole or a half: width and offset.
@@ -52,6 +53,42 @@ fn at_the_timers(random: &mut Random) -> Call {
     let width = random.choose(&[4, 4, 4, 4, 8, 8, 0, 1, 2, 3, 5, 16]);
     let offset = register + random.choose(&[0, 0, 0, 4, 4, 2, 0x400]);
     Call::Write { window: 1, width, offset, value: random.any() >> random.below(64) }
+}
+
+/// A pin that waits for its end, or any pin if none does.
+pub fn waiting_pin(board: &Board, random: &mut Random) -> u64 {
+    let waits = |&pin: &u64| board.controller.entries.low[pin as usize] & REMOTE_IRR != 0;
+    let waiting: Vec<u64> = (0..24).filter(waits).collect();
+    if waiting.is_empty() {
+        random.below(24)
+    } else {
+        random.choose(&waiting)
+    }
+}
+
+/// Low-word writes to a pin's entry, as edge and as level, and calls in which they show.
+pub fn rewrites(board: &Board, pin: u64, random: &mut Random) -> Vec<Call> {
+    let mut word = board.controller.entries.low[pin as usize];
+    let level = board.controller.entries.level[pin as usize] ^ 1;
+    let mut calls = vec![Call::Write { window: 0, width: 4, offset: 0x00, value: 0x10 + 2 * pin }];
+    for _ in 0..1 + random.below(4) {
+        word ^= random.choose(&[LEVEL, LEVEL, LEVEL | MASK, LEVEL | 1, LEVEL | 0x200, MASK, 1]);
+        if random.percent(40) {
+            word &= !(MASK | DELIVERY_MODE);
+        }
+        let value = u64::from(word ^ random.choose(&[0, REMOTE_IRR]));
+        calls.push(Call::Write { window: 0, width: 4, offset: 0x10, value });
+        calls.push(Call::Read { window: 0, width: 4, offset: 0x10 });
+    }
+    let shows = [
+        Call::Deliver,
+        Call::Wire { pin, level: level.into() },
+        Call::Deliver,
+        Call::End { vector: word as u8 },
+        Call::Deliver,
+    ];
+    calls.extend(shows.into_iter().skip(random.below(3) as usize));
+    calls
 }
 
 /// Arguments that a log can't have: cut to fewer bits, they would be others.

@@ -1,6 +1,7 @@
 //! The clauses of "well formed", and how to break each alone.
 
 use crate::abi::{Board, Timer};
+use crate::pin::{LEVEL, MASK, REMOTE_IRR};
 use crate::random::Random;
 
 /// A clause.
@@ -15,11 +16,26 @@ impl Clause {
     /// Breaks this clause in a well-formed board and leaves every other one whole.
     pub fn break_alone(&self, board: &mut Board, random: &mut Random) {
         (self.break_it)(board, random);
-        let broken = CLAUSES.iter().filter(|clause| !(clause.holds)(board));
-        let names: Vec<&str> = broken.map(|clause| clause.name).collect();
-        assert_eq!(names, [self.name], "one clause is broken alone");
+        assert_eq!(broken(board), [self.name], "one clause is broken alone");
     }
 }
+
+/// The names of the clauses that are broken.
+pub fn broken(board: &Board) -> Vec<&'static str> {
+    CLAUSES.iter().filter(|clause| !(clause.holds)(board)).map(|clause| clause.name).collect()
+}
+
+/// The edge entries that have remote IRR, if this is all that keeps the board from being well formed.
+pub fn stray_irr(board: &Board) -> Vec<usize> {
+    if broken(board) == [EDGE_WITHOUT_IRR] {
+        (0..24).filter(|&pin| has_stray_irr(board, pin)).collect()
+    } else {
+        Vec::new()
+    }
+}
+
+/// What the clause of K4 says.
+const EDGE_WITHOUT_IRR: &str = "an edge entry has remote IRR 0";
 
 /// All clauses.
 pub const CLAUSES: &[Clause] = &[
@@ -50,6 +66,17 @@ pub const CLAUSES: &[Clause] = &[
         },
     },
     Clause {
+        name: EDGE_WITHOUT_IRR,
+        holds: |board| !(0..24).any(|pin| has_stray_irr(board, pin)),
+        break_it: |board, random| {
+            // Mostly one entry.
+            for _ in 0..1 + random.below(5) / 4 {
+                let pin = if random.percent(25) { random.choose(&[0, 23]) } else { pin(random) };
+                stray(board, pin, random);
+            }
+        },
+    },
+    Clause {
         name: "no edge is held on a level pin",
         holds: |board| {
             (0..24).all(|pin| is_edge(board, pin) || board.controller.entries.held[pin] == 0)
@@ -65,7 +92,7 @@ pub const CLAUSES: &[Clause] = &[
         holds: |board| are_flags(&board.controller.entries.held),
         break_it: |board, random| {
             let pin = pin(random);
-            board.controller.entries.low[pin] &= !LEVEL;
+            board.controller.entries.low[pin] &= !(LEVEL | REMOTE_IRR);
             board.controller.entries.held[pin] = no_flag(random);
         },
     },
@@ -183,11 +210,29 @@ pub const CLAUSES: &[Clause] = &[
     },
 ];
 
-/// Bit 15 of a low word.
-const LEVEL: u32 = 1 << 15;
-
 fn is_edge(board: &Board, pin: usize) -> bool {
     board.controller.entries.low[pin] & LEVEL == 0
+}
+
+fn has_stray_irr(board: &Board, pin: usize) -> bool {
+    is_edge(board, pin) && board.controller.entries.low[pin] & REMOTE_IRR != 0
+}
+
+/// Puts remote IRR on an edge entry: that of the pin, or one that was level and waited for its end.
+fn stray(board: &mut Board, pin: usize, random: &mut Random) {
+    let entries = &mut board.controller.entries;
+    let waiting =
+        |&other: &usize| entries.low[other] & LEVEL != 0 && entries.low[other] & REMOTE_IRR != 0;
+    let waiting: Vec<usize> = (0..24).filter(waiting).collect();
+    if !waiting.is_empty() && random.percent(40) {
+        entries.low[random.choose(&waiting)] &= !LEVEL;
+        return;
+    }
+    if entries.low[pin] & LEVEL != 0 || random.percent(60) {
+        entries.low[pin] = entries.low[pin] & !(LEVEL | MASK) | random.choose(&[0, MASK]);
+        entries.held[pin] = random.choose(&[0, 1]);
+    }
+    entries.low[pin] |= REMOTE_IRR;
 }
 
 fn all_timers(board: &Board, holds: fn(&Timer) -> bool) -> bool {

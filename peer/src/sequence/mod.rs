@@ -19,6 +19,8 @@ use crate::log::records_of;
 use crate::random::Random;
 use clauses::CLAUSES;
 
+pub use clauses::{broken, stray_irr};
+
 /// What a sequence is about.
 #[derive(Clone, Copy, PartialEq, Eq, Debug)]
 pub enum Kind {
@@ -123,6 +125,7 @@ impl Maker {
         self.round += 1;
         self.reset_and_log();
         self.calls_on_states();
+        self.rewrites();
         self.wide_calls();
         self.broken_clauses();
         for _ in 0..20 {
@@ -178,6 +181,15 @@ impl Maker {
         for _ in 0..40 {
             let start = self.state();
             let calls = (0..6).map(|_| calls::any(self.pace, &mut self.random)).collect();
+            self.push(Kind::State, start, calls);
+        }
+    }
+
+    fn rewrites(&mut self) {
+        for _ in 0..10 {
+            let start = self.state();
+            let pin = calls::waiting_pin(&start, &mut self.random);
+            let calls = calls::rewrites(&start, pin, &mut self.random);
             self.push(Kind::State, start, calls);
         }
     }

@@ -60,11 +60,7 @@ mistakes! {
     MaskIgnored: "a masked pin is delivered";
     LevelWriteKeepsEdge: "a held edge comes back after a level write";
     PolarityDropsEdge: "a polarity write drops a held edge";
-    IrrLostOnEdgeWrite: "remote IRR is lost when an entry is written edge";
-    IrrLostOnWrite: "remote IRR is lost by every write";
-    IrrWritable: "bit 14 can be written";
-    IrrBlocksEdge: "remote IRR holds up edge deliveries";
-    EndFreesEdgeEntry: "an end clears remote IRR on an edge entry";
+    EndDropsEdge: "an end drops a held edge of an entry with its vector";
     EndByOldVector: "an end goes by the vector that was delivered";
     NoIrr: "a level pin is delivered again without an end";
     StatusBitZero: "bit 12 always reads 0";
@@ -75,6 +71,27 @@ mistakes! {
     ReservedKept: "bits 31:17 of a low word are kept";
     DestinationFourBits: "the destination has four bits";
     LogicalZero: "a delivery says logical 0";
+    // Remote IRR and writes of an entry.
+    IrrSurvives: "remote IRR survives every write, as before K4";
+    IrrLostUnmasked: "only an unmasked edge write clears remote IRR";
+    IrrLostMasked: "only a masked edge write clears remote IRR";
+    IrrLostFixedMode: "only an edge write with mode 000 clears remote IRR";
+    IrrLostSameVector: "only an edge write with the same vector clears remote IRR";
+    IrrLostAsserted: "only an edge write to an asserted pin clears remote IRR";
+    IrrKeptByOne: "an edge write with a 1 in bit 14 keeps remote IRR";
+    IrrByOldTrigger: "a write to an edge entry clears remote IRR, not one as edge";
+    IrrBackWithLevel: "an edge entry hides remote IRR, and a level write shows it";
+    FreedEdgeWaits: "an edge write leaves the pin waiting for its end";
+    IrrLostOnWrite: "remote IRR is lost by every write";
+    IrrLostWithVector: "a level write with another vector clears remote IRR";
+    IrrLostOnMasking: "a masked level write clears remote IRR";
+    IrrLostByZero: "a level write with a 0 in bit 14 clears remote IRR";
+    IrrLostOnHighWrite: "a high-word write clears remote IRR";
+    IrrWritable: "bit 14 can be written";
+    EdgeSetsIrr: "an edge delivery sets remote IRR";
+    EdgeWriteFreesAll: "an edge write clears remote IRR of every entry";
+    EdgeWriteEnds: "an edge write is an end with the entry's vector";
+    EdgeWriteDropsEdge: "an edge write drops a held edge";
     // Timer registers.
     GlitchingWrite: "a configuration write is several steps";
     SilentEnable: "enabling and disabling the block makes no edge";
@@ -189,6 +206,12 @@ mistakes! {
     LimitTooLow: "a log of 65,536 bytes is too long";
     LimitTooHigh: "a log of 65,537 bytes isn't too long";
     BigEndianTicks: "ticks are read big-endian";
+    // Refusal 5.
+    EdgeIrrTaken: "remote IRR on an edge entry isn't refused";
+    MaskedEdgeIrrTaken: "remote IRR on a masked edge entry isn't refused";
+    HeldEdgeIrrTaken: "remote IRR beside a held edge isn't refused";
+    LastEdgeIrrTaken: "remote IRR on an edge entry of pin 23 isn't refused";
+    EdgeIrrMended: "remote IRR on an edge entry is cleared, not refused";
     // A reset.
     ResetRefuses: "a reset refuses an ill-formed board with 5";
     ResetMendsNothing: "a reset leaves an ill-formed board as it is";

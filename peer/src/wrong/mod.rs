@@ -4,6 +4,7 @@
 //! or the state; where that can't be done, it goes its own way for a while.
 
 mod halves;
+mod irr;
 mod log;
 mod mistake;
 mod reads;
@@ -39,6 +40,8 @@ struct Memory {
     edges: [bool; PINS],
     /// The vector that each pin was delivered with.
     vectors: [u8; PINS],
+    /// Remote IRR on an edge entry, which the right model never has.
+    irr: [bool; PINS],
     /// The timer has fired since its comparator was written.
     fired: [bool; TIMERS],
     /// Bit 6, or a status, that the right model doesn't have.
@@ -102,10 +105,7 @@ impl Wrong {
             Mistake::DeliversHighest => pins.iter().rposition(Pin::is_eligible),
             Mistake::OtherModeDelivered => pins.iter().position(|pin| without(pin, DELIVERY_MODE)),
             Mistake::MaskIgnored => pins.iter().position(|pin| without(pin, MASK)),
-            Mistake::IrrBlocksEdge => {
-                pins.iter().position(|pin| pin.is_eligible() && !pin.remote_irr())
-            }
-            _ => pins.iter().position(Pin::is_eligible),
+            _ => (0..PINS).find(|&pin| pins[pin].is_eligible() && !self.waits_as_edge(pin)),
         }
     }
 
@@ -116,8 +116,13 @@ impl Wrong {
         if self.mistake == Mistake::NoIrr {
             pin.low &= !REMOTE_IRR;
         }
-        if self.mistake == Mistake::EdgesCounted && !pin.is_level() {
-            pin.held = std::mem::take(&mut self.memory.edges[number]);
+        if pin.is_level() {
+            return;
+        }
+        match self.mistake {
+            Mistake::EdgesCounted => pin.held = std::mem::take(&mut self.memory.edges[number]),
+            Mistake::EdgeSetsIrr => self.memory.irr[number] = true,
+            _ => {}
         }
     }
 }
@@ -176,14 +181,12 @@ impl Calls for Wrong {
                     pin.low &= !REMOTE_IRR;
                 }
             }
-            Mistake::EndFreesEdgeEntry => pins
-                .filter(|(_, pin)| pin.vector() == vector)
-                .for_each(|(_, pin)| pin.low &= !REMOTE_IRR),
             Mistake::EndByOldVector => pins
                 .filter(|(number, pin)| pin.is_level() && vectors[*number] == vector)
                 .for_each(|(_, pin)| pin.low &= !REMOTE_IRR),
             _ => self.board.end(vector)?,
         }
+        self.damage_end(vector);
         Ok(())
     }
 

@@ -4,7 +4,7 @@ use super::{Mistake, Wrong};
 use crate::board::{Refusal, CONTROLLER, TIMER_BLOCK};
 use crate::controller::{Controller, DATA};
 use crate::part::{register_at, Part};
-use crate::pin::{DELIVERY_STATUS, MASK};
+use crate::pin::{DELIVERY_STATUS, MASK, REMOTE_IRR};
 use crate::timer::bits;
 use crate::timers::{comparator_of, configuration_of, STATUS, TIMERS, WINDOW_END};
 
@@ -82,6 +82,7 @@ impl Wrong {
                 pin.low &= !MASK;
                 value | u64::from(pin.read_low() & DELIVERY_STATUS)
             }
+            _ if self.shows_stray_irr(number) => value | u64::from(REMOTE_IRR),
             _ => value,
         }
     }

@@ -1,5 +1,6 @@
-//! Mistakes in a reset. No log has one; they show in sequences of calls.
+//! Mistakes in a reset. No log has one; they show in sequences of calls, as those in what is refused with 5 do.
 
+use super::irr::answer_stray;
 use super::{Memory, Mistake, Wrong};
 use crate::abi::{self, Call, Reply};
 use crate::board::{Board, Calls, Refusal};
@@ -8,7 +9,7 @@ use crate::sequence::Sequence;
 
 impl Mistake {
     /// It is one in a reset.
-    pub fn is_of_reset(self) -> bool {
+    fn is_of_reset(self) -> bool {
         matches!(
             self,
             Mistake::ResetRefuses
@@ -26,9 +27,14 @@ impl Mistake {
                 | Mistake::ResetZeroComparator
         )
     }
+
+    /// It shows in some log: every log starts at reset, and has neither a reset nor a board that is refused with 5.
+    pub fn shows_in_logs(self) -> bool {
+        !self.is_of_reset() && !self.is_of_state()
+    }
 }
 
-/// What a lent entry with a mistake in its reset answers to the calls of a sequence.
+/// What a lent entry with a mistake that no log shows answers to the calls of a sequence.
 pub fn replies(sequence: &Sequence, mistake: Mistake) -> Vec<Reply> {
     let mut lent = sequence.start;
     sequence.calls.iter().map(|&call| answer(call, &mut lent, mistake)).collect()
@@ -43,6 +49,9 @@ fn answer(call: Call, lent: &mut abi::Board, mistake: Mistake) -> Reply {
             let reply = call.ask(&mut wrong);
             *lent = abi::Board::from(&wrong.board);
             reply
+        }
+        _ if mistake.is_of_state() && call != Call::Reset => {
+            answer_stray(call, lent, mistake).unwrap_or_else(|| call.answer(lent))
         }
         _ => call.answer(lent),
     }

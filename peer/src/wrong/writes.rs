@@ -63,13 +63,19 @@ impl Wrong {
         if index == 0 && self.has(Mistake::IdEightBits) {
             self.board.controller.id = value >> 24 & 0xF | value >> 20 & 0xF;
         }
-        if matches!(index, 0x10..0x40) && self.has(Mistake::DestinationFourBits) {
-            self.board.controller.pins[(index as usize - 0x10) / 2].destination &= 0x0F;
+        if matches!(index, 0x10..0x40) {
+            let pin = &mut self.board.controller.pins[(index as usize - 0x10) / 2];
+            match self.mistake {
+                Mistake::DestinationFourBits => pin.destination &= 0x0F,
+                Mistake::IrrLostOnHighWrite => pin.low &= !REMOTE_IRR,
+                _ => {}
+            }
         }
     }
 
     fn damage_low_write(&mut self, before: &Board, number: usize, value: u32) {
         let old = before.controller.pins[number];
+        self.damage_irr(number, &old, value);
         let edges = &mut self.memory.edges[number];
         let pin = &mut self.board.controller.pins[number];
         let edge = !pin.is_level();
@@ -89,9 +95,7 @@ impl Wrong {
             }
             Mistake::LevelWriteKeepsEdge if edge => pin.held |= std::mem::take(edges),
             Mistake::LevelWriteKeepsEdge => *edges |= old.held,
-            Mistake::IrrLostOnEdgeWrite if edge => pin.low &= !REMOTE_IRR,
-            Mistake::IrrLostOnWrite => pin.low &= !REMOTE_IRR,
-            Mistake::IrrWritable => pin.low = pin.low & !REMOTE_IRR | value & REMOTE_IRR,
+            Mistake::EdgeWriteDropsEdge if edge => pin.held = false,
             Mistake::ReservedKept if value >> 17 != 0 => pin.low |= MASK,
             _ => {}
         }

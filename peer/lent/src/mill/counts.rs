@@ -1,5 +1,6 @@
 //! What the calls of the mill were, and what they did to its screen.
 
+use lent::irr;
 use peer::abi::mill::Asked;
 use peer::abi::Call;
 use peer::sequence::mill::{broken, Kind, Step};
@@ -26,6 +27,7 @@ pub struct Counts {
     board: [u64; CALLS.len()],
     words: [[u64; WORDS.len()]; IN_WORDS.len()],
     happenings: [u64; Happening::ALL.len()],
+    irr: irr::Counts,
 }
 
 impl Counts {
@@ -39,6 +41,7 @@ impl Counts {
             board: [0; CALLS.len()],
             words: [[0; WORDS.len()]; IN_WORDS.len()],
             happenings: [0; Happening::ALL.len()],
+            irr: irr::Counts::new(&CALLS),
         }
     }
 
@@ -47,6 +50,12 @@ impl Counts {
         let (call, number) = (place(step.call.asked()), step.reply.number as usize);
         self.kinds[kind as usize] += 1;
         self.numbers[number] += 1;
+        let asked = match step.call.asked() {
+            Asked::Board(call) => Some(call),
+            _ => None,
+        };
+        let boards = (&step.before.board, &step.after.board);
+        self.irr.note(call, asked, boards, step.reply.number);
         if number == 5 {
             let whole = step.before.board.is_well_formed();
             let side = if whole { &mut self.screen } else { &mut self.board };
@@ -91,6 +100,7 @@ impl Counts {
         for &happening in Happening::ALL {
             rows.push((happening.text().to_string(), self.happenings[happening as usize]));
         }
+        rows.extend(self.irr.rows());
         rows
     }
 }

@@ -51,6 +51,7 @@ happenings! {
     TakenEnd: "taken: an end with another vector";
     TakenPresent: "taken: an end with the entry's vector, another by now";
     TakenPress: "taken: the key holds an edge again";
+    TakenFreed: "taken: an edge write clears the key's remote IRR";
     PausedPress: "paused: the key holds an edge again";
     PausedDelivery: "paused: the key is delivered";
     WideEnd: "end: a number above 255";
@@ -69,6 +70,10 @@ fn entry(mill: &Mill, pin: u64) -> (u32, bool) {
 
 fn is_level(low: u32) -> bool {
     low & 1 << 15 != 0
+}
+
+fn has_irr(low: u32) -> bool {
+    low & 1 << 14 != 0
 }
 
 fn is_masked(low: u32) -> bool {
@@ -126,7 +131,7 @@ pub fn happenings(step: &Step, mut note: impl FnMut(Happening)) {
 fn of_the_board(step: &Step, call: Call, note_if: &mut impl FnMut(bool, Happening)) {
     let screen = &step.before.screen;
     let (low, held) = entry(&step.before, screen.pin.into());
-    let (_, holds) = entry(&step.after, screen.pin.into());
+    let (new, holds) = entry(&step.after, screen.pin.into());
     let (gives, press) = (step.reply.delivered == 1, !held && holds);
     let gives_key = gives && u16::from(step.reply.pin) == screen.pin;
     let ends =
@@ -156,6 +161,7 @@ fn of_the_board(step: &Step, call: Call, note_if: &mut impl FnMut(bool, Happenin
             note_if(is_end && !same, Happening::TakenEnd);
             note_if(ends(low & 0xFF) && !same, Happening::TakenPresent);
             note_if(press, Happening::TakenPress);
+            note_if(has_irr(low) && !is_level(new), Happening::TakenFreed);
         }
         _ => {
             note_if(press, Happening::PausedPress);

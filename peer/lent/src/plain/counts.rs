@@ -1,5 +1,6 @@
 //! What the calls of the plain engine were, and what came of them.
 
+use lent::irr;
 use peer::abi::Call;
 use peer::sequence::plain::Step;
 use peer::sequence::Kind;
@@ -19,6 +20,7 @@ pub struct Counts {
     taken: [u64; CALLS.len()],
     refused: [u64; CALLS.len()],
     happenings: [u64; HAPPENINGS.len()],
+    irr: irr::Counts,
     ticks: u64,
 }
 
@@ -31,6 +33,7 @@ impl Counts {
             taken: [0; CALLS.len()],
             refused: [0; CALLS.len()],
             happenings: [0; HAPPENINGS.len()],
+            irr: irr::Counts::new(&CALLS),
             ticks: 0,
         }
     }
@@ -42,6 +45,8 @@ impl Counts {
         self.numbers[number] += 1;
         let side = if number == 5 { &mut self.refused } else { &mut self.taken };
         side[call] += 1;
+        let boards = (&step.before, &step.after);
+        self.irr.note(call, step.call.asked(), boards, step.reply.number);
         for (count, (_, happens)) in self.happenings.iter_mut().zip(HAPPENINGS) {
             *count += u64::from(happens(step));
         }
@@ -65,6 +70,7 @@ impl Counts {
         for ((text, _), &count) in HAPPENINGS.iter().zip(&self.happenings) {
             rows.push((text.to_string(), count));
         }
+        rows.extend(self.irr.rows());
         rows.push(("ticks walked".to_string(), self.ticks));
         rows
     }

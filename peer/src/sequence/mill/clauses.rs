@@ -1,6 +1,7 @@
 //! The clauses of "well formed" that a mill's screen adds, and how to break each alone.
 
 use crate::abi::mill::{Mill, Screen};
+use crate::pin::{LEVEL, REMOTE_IRR};
 use crate::random::Random;
 
 /// A clause.
@@ -102,7 +103,7 @@ pub const CLAUSES: &[Clause] = &[
         },
         break_it: |mill, random| {
             let pin = pin(random);
-            mill.board.controller.entries.low[usize::from(pin)] &= !(1 << 15);
+            mill.board.controller.entries.low[usize::from(pin)] &= !(LEVEL | REMOTE_IRR);
             mill.board.controller.entries.held[usize::from(pin)] = 1;
             mill.screen = Screen { told: 1, pin, word: 0, vector: 0 };
         },

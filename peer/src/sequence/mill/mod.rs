@@ -3,6 +3,7 @@
 mod calls;
 mod clauses;
 
+use super::calls::{rewrites, waiting_pin};
 use super::memory;
 use crate::abi::mill::{Asked, Mill, MillCall, Screen};
 use crate::abi::{Board, Call, Reply};
@@ -117,6 +118,9 @@ impl Maker {
             let start = self.mill();
             self.grow(Kind::State, start, 8, calls::any);
         }
+        for _ in 0..8 {
+            self.rewrites();
+        }
         for _ in 0..6 {
             let start = self.mill();
             self.grow(Kind::Wide, start, 4, calls::wide);
@@ -190,6 +194,20 @@ impl Maker {
             calls.push(call);
         }
         self.sequences.push(Sequence { kind, start, calls });
+    }
+
+    /// Low-word writes, mostly to the key's entry.
+    fn rewrites(&mut self) {
+        let start = self.mill();
+        let Screen { told, pin: key, .. } = start.screen;
+        let pin = if told == 1 && self.random.percent(60) {
+            key.into()
+        } else {
+            waiting_pin(&start.board, &mut self.random)
+        };
+        let calls = rewrites(&start.board, pin, &mut self.random).into_iter();
+        let calls = calls.map(|call| littered(Asked::Board(call), &mut self.random)).collect();
+        self.sequences.push(Sequence { kind: Kind::State, start, calls });
     }
 
     /// A log of a pause key's life, told at the start, and between its records what no log has.

@@ -5,6 +5,7 @@ use crate::abi::mill::{kind, Asked, Mill, MillCall};
 use crate::abi::{refused, Reply};
 use crate::board::Refusal;
 use crate::sequence::mill::broken;
+use crate::sequence::stray_irr;
 
 /// Makes a call as an entry with a mistake answers it.
 pub fn answer(call: MillCall, lent: &mut Mill, mistake: Mistake) -> Reply {
@@ -73,6 +74,11 @@ fn before_the_state(call: MillCall, lent: &Mill, mistake: Mistake) -> Option<Rep
     match (mistake, call.asked()) {
         (Mistake::BoardUntested, Asked::Resume)
             if broken(lent).is_empty() && !lent.board.is_well_formed() =>
+        {
+            Some(Reply::default())
+        }
+        (Mistake::EdgeIrrUntested, _)
+            if broken(lent).is_empty() && !stray_irr(&lent.board).is_empty() =>
         {
             Some(Reply::default())
         }

@@ -59,6 +59,8 @@ mistakes! {
     PressUnpauses: "a press in paused asks again", "lc";
     DeliveryUnpauses: "a delivery in paused takes again", "lc";
     EndUnpauses: "another end in paused resumes", "lc";
+    EdgeWritePauses: "taken becomes paused when an edge write clears remote IRR", "lc";
+    EdgeWriteUntakes: "taken becomes running when an edge write clears remote IRR", "lc";
     // A telling.
     TellingKeepsWord: "a telling keeps the old word", "c";
     TellingRuns: "a telling always says running", "c";
@@ -97,6 +99,7 @@ mistakes! {
     EarlyVectorUntested: "a vector in running or asked isn't refused", "c";
     RunningEdgeUntested: "running beside a held edge isn't refused", "c";
     BoardUntested: "resume doesn't test the board", "c";
+    EdgeIrrUntested: "remote IRR on an edge entry isn't refused by a mill", "c";
     PinBeforeState: "3 is tested before 5", "c";
     TriggerBeforeState: "14 is tested before 5", "c";
     // The lent entry's numbers.

@@ -134,6 +134,8 @@ impl WrongMill {
             (Mistake::FreeingEndOnly, News::Ended(_)) if !changed => Some(taken(vector)),
             (Mistake::NeverPaused, _) => Some(taken(vector)),
             (Mistake::PressUntakes, _) if !old.held && new.held => Some(Stage::Asked),
+            (Mistake::EdgeWritePauses, _) if turn.is_freed_as_edge() => Some(paused(vector)),
+            (Mistake::EdgeWriteUntakes, _) if turn.is_freed_as_edge() => Some(Stage::Running),
             _ => None,
         }
     }
@@ -150,6 +152,11 @@ impl WrongMill {
 }
 
 impl Turn {
+    /// An edge write cleared the key's remote IRR.
+    fn is_freed_as_edge(&self) -> bool {
+        self.old.remote_irr() && !self.new.is_level()
+    }
+
     /// The vector that the key was delivered with.
     fn key_vector(&self) -> Option<u8> {
         match self.news {
