@@ -125,8 +125,8 @@ impl Low {
         }
     }
 
-    // Bit 15, moved to 14's place, takes 14 out of the mask: a level entry may have remote IRR. A test of its own for it
-    // made each call a third longer (docs/BENCHMARKS.md).
+    // Bit 15, moved to 14's place, takes 14 out of the mask: a level entry may have remote IRR. With a test of its own
+    // for it a short call was a third longer (docs/BENCHMARKS.md).
     pub fn word_ok(self) -> bool
         ensures { λ r. ⌜ r ≡ wordOk (self .0) ⌝ }
     {
