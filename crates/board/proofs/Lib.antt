@@ -7,6 +7,7 @@ pub mod Ticks
 pub mod Order
 pub mod Strikes
 pub mod At
+pub mod InPlace
 pub mod Served
 pub mod Keeps
 pub mod Events

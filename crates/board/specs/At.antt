@@ -9,14 +9,17 @@ use mir.Val.{boolByte}
 use Rattle.answers.specs.declared.Answer.the-variants as answer
 use Rattle.answers.specs.declared.Refusal.the-variants as refusal
 use Rattle.entries.specs.Strike.{pulse, rise}
-use Rattle.controller.specs.Inner.{rewiredAt, struckOf}
+use Rattle.entries.specs.declared.EntryDecision.{EntryDecision}
+use Rattle.entries.specs.Decision.{writeAt, renewed}
+use Rattle.controller.specs.State.{withEntries}
+use Rattle.controller.specs.Inner.{rewiredAt, struckOf, lowPin}
 use Rattle.timers.specs.declared.Timers.{Timers}
 use Rattle.timers.specs.declared.Ran.{Ran}
 use Rattle.timers.specs.Tick.{drivesOf, pulsesOf, routeOf}
 use Rattle.timers.specs.Inner.{raisesOf, ranOf}
 use Rattle.board.specs.declared.Board.{Board}
 use Rattle.board.specs.declared.Turn.{Turn}
-use Rattle.board.specs.State.{board, turn, refused}
+use Rattle.board.specs.State.{board, withController, turn, refused}
 
 -- ---- an outside wire: its own pin
 
@@ -31,6 +34,19 @@ wiringAt b pin level =
     (turn (board (rewiredAt (b .controller) pin (levelOf level (b .timers) pin)) (b .timers) (set (b .outside) pin level)) answer.Done)
     (refused b refusal.Level))
     (refused b refusal.Pin)
+
+-- ---- a low word's write: its own pin
+
+-- the pin whose low word a write goes to, by the controller's index; 24 if it goes elsewhere or is refused
+unfoldable pub lowPinOf : ℕ → ℕ → ℕ → ℕ → ℕ → ℕ
+lowPinOf index window width offset value = cond (eqb window 0) (lowPin index width offset value) 24
+
+-- what is decided of an entry, applied
+abbrev pub renewedBy : Board → EntryDecision → Turn
+renewedBy b d = turn (withController b (withEntries (b .controller) (renewed (b .controller .entries) d))) (d .answer)
+
+unfoldable pub lowWriteAt : Board → ℕ → ℕ → Turn
+lowWriteAt b n v = renewedBy b (writeAt n v (b .controller .entries .low) (b .controller .entries .held))
 
 -- ---- an advance: each timer that fires strikes its pin, at its first firing
 

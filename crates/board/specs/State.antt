@@ -6,7 +6,8 @@ use Rattle.answers.specs.declared.Answer.{Answer}
 use Rattle.answers.specs.declared.Answer.the-variants as answer
 use Rattle.answers.specs.declared.Refusal.{Refusal}
 use Rattle.controller.specs.declared.Controller.{Controller}
-use Rattle.controller.specs.State.{resetController}
+use Rattle.controller.specs.State.{resetController, withEntries}
+use Rattle.entries.specs.Table.{withLow, withLevel, withHeld}
 use Rattle.timers.specs.declared.Timers.{Timers}
 use Rattle.timers.specs.State.{resetTimers}
 use Rattle.board.specs.declared.Board.{Board}
@@ -17,6 +18,14 @@ board c s o = record { timers = s; controller = c; outside = o }
 
 abbrev pub withController : Board → Controller → Board
 withController b c = board c (b .timers) (b .outside)
+
+-- the board with other low words and held edges
+abbrev pub withEntry : Board → List ℕ → List ℕ → Board
+withEntry b w h = withController b (withEntries (b .controller) (withHeld (withLow (b .controller .entries) w) h))
+
+-- the board with other pin levels, held edges and outside levels
+abbrev pub withWires : Board → List ℕ → List ℕ → List ℕ → Board
+withWires b l h o = board (withEntries (b .controller) (withLevel (withHeld (b .controller .entries) h) l)) (b .timers) o
 
 -- reset: the controller's, the timers', outside wires low
 abbrev pub resetBoard : Board

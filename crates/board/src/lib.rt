@@ -1,6 +1,7 @@
 // The board: the interrupt controller, the timer block and the wires between them.
 // Everything that can be done to it is a Call, everything that can come back an Answer (crate answers).
 mod advance;
+mod in_place;
 mod step;
 mod wires;
 

@@ -1,5 +1,5 @@
-// Every call: the board is tested once, unless the call is a reset, then the call is served. A call named -ing is what the call does once the board is known
-// to be well formed: the monitor tests it where it lies.
+// Every call: the board is tested once, unless the call is a reset, then the call is served. A call named -ing is what the
+// call does once the board is known to be well formed: the monitor tests it where it lies.
 ghost use mathlib.Core.Path.{_≡_};
 ghost use Rattle.board.specs.declared.Call.the-variants as call;
 ghost use Rattle.board.specs.State.{refused};
@@ -10,7 +10,6 @@ use crate::Call;
 use crate::Turn;
 use answers::Answer;
 use answers::Refusal;
-use controller::Controller;
 
 impl Board {
     pub const CONTROLLER: u64 = 0;
@@ -87,25 +86,23 @@ impl Board {
     pub fn wiring(self, pin: u64, level: u64) -> Turn
         ensures { λ r. ⌜ r ≡ wiringAt self pin level ⌝ }
     {
-        if Controller::PINS <= pin {
-            return self.refused(Refusal::Pin);
-        }
-        if Controller::LAST_LEVEL < level {
-            return self.refused(Refusal::Level);
-        }
-        let n = pin as usize;
-        let c = self.controller;
-        let timers = self.timers;
+        let mut controller = self.controller;
+        let mut entries = controller.entries;
+        let mut levels = entries.level;
+        let mut held = entries.held;
         let mut outside = self.outside;
-        outside[n] = level as u8;
-        let high = (level == 1) | timers.drives(pin as u16);
+        let answer = self.wire_in_place(pin, level, &mut levels, &mut held, &mut outside);
+        entries.level = levels;
+        entries.held = held;
+        controller.entries = entries;
+        let timers = self.timers;
         Turn {
             board: Board {
                 timers,
-                controller: c.rewired_at(n, high as u8),
+                controller,
                 outside,
             },
-            answer: Answer::Done,
+            answer,
         }
     }
 

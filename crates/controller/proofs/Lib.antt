@@ -4,5 +4,6 @@ pub mod Lasts
 pub mod Held
 pub mod Gained
 pub mod ReadBack
+pub mod InPlace
 pub mod Stays
 pub mod Remote

@@ -1,12 +1,13 @@
 // Wires, end of interrupt, delivery.
 ghost use mathlib.Core.Path.{_≡_};
 ghost use Rattle.controller.specs.Steps.{rewired, wireOf, afterEnd, endOf, deliveringOf, deliverOf};
-ghost use Rattle.controller.specs.Inner.{rewiredAt, struckOf};
+ghost use Rattle.controller.specs.Inner.{struckOf, deliveryOf};
 use crate::Controller;
 use crate::Turn;
 use answers::Answer;
 use answers::Refusal;
 use entries::Entries;
+use entries::EntryDecision;
 
 impl Controller {
     // a pin above 23 is refused, and a wire level above 1
@@ -21,16 +22,6 @@ impl Controller {
         let entries = self.entries;
         let mut next = self;
         next.entries = entries.wired(levels);
-        next
-    }
-
-    // One wire changes.
-    pub fn rewired_at(self, n: usize, level: u8) -> Controller
-        ensures { λ r. ⌜ r ≡ rewiredAt self n level ⌝ }
-    {
-        let entries = self.entries;
-        let mut next = self;
-        next.entries = entries.wired_at(n, level);
         next
     }
 
@@ -88,18 +79,34 @@ impl Controller {
         }
     }
 
+    // The delivery step decided, of the controller that has these low words and held edges.
+    pub fn delivery(self, low: &[u32; 24], held: &[u8; 24]) -> EntryDecision
+        ensures { λ r. ⌜ r ≡ deliveryOf self (now (low .entry)) (now (held .entry)) ⌝ }
+    {
+        let entries = self.entries;
+        let destination = entries.destination;
+        let level = entries.level;
+        let words = *low;
+        let edges = *held;
+        let lent = Entries {
+            low: words,
+            destination,
+            level,
+            held: edges,
+        };
+        EntryDecision::delivery(lent.first_eligible(), &destination, low, held)
+    }
+
     pub fn delivering(self) -> Turn
         ensures { λ r. ⌜ r ≡ deliveringOf self ⌝ }
     {
         let entries = self.entries;
-        let n = entries.first_eligible();
-        let answer = if n < Entries::PINS {
-            entries.given(n as u8)
-        } else {
-            Answer::Nothing
-        };
+        let low = entries.low;
+        let held = entries.held;
+        let d = self.delivery(&low, &held);
+        let answer = d.answer;
         let mut next = self;
-        next.entries = entries.taken(n);
+        next.entries = entries.renewed(d);
         Turn {
             controller: next,
             answer,

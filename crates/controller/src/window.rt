@@ -1,9 +1,11 @@
 ghost use mathlib.Core.Path.{_≡_};
+ghost use Rattle.controller.specs.Inner.{lowPin};
 ghost use Rattle.controller.specs.Window.{idShown, dataRead, dataWritten, readingOf, writingOf, readOf, writeOf};
 use crate::Controller;
 use crate::Turn;
 use answers::Answer;
 use answers::Refusal;
+use entries::Entries;
 
 impl Controller {
     // ---- the window
@@ -128,6 +130,22 @@ impl Controller {
             next.entries = entries.high_written(n, value);
         }
         next
+    }
+
+    // The pin whose low word a write goes to, by the index; 24 if it goes elsewhere or is refused.
+    pub fn low_pin(index: u32, width: u64, offset: u64, value: u64) -> usize
+        ensures { λ r. ⌜ r ≡ lowPin index width offset value ⌝ }
+    {
+        if (width != Controller::WIDTH)
+            | (offset != Controller::DATA)
+            | (Controller::VALUE_END <= value)
+        {
+            return Entries::PINS;
+        }
+        if (index < Controller::ENTRIES) | (Controller::ENTRIES_END <= index) | (index & 1 == 1) {
+            return Entries::PINS;
+        }
+        ((index - Controller::ENTRIES) >> 1) as usize
     }
 
     pub fn writing(self, width: u64, offset: u64, value: u64) -> Turn

@@ -1,21 +1,19 @@
 -- What a delivery, a read and each step do to eligibility and to held edges.
 use mathlib.Core.Path.{_≡_, refl, sym, ap, _∙_}
 use mathlib.Core.Bool.{Bool, true, false, not, cond, _&&_}
-use mathlib.Core.List.{List}
 use Prim.Native.Nat.{ℕ, _+_, _-_, _*_, _/_, _%_, _<_, _≤_}
 use native.Mathlib.Omega.{arith}
 use native.Mathlib.Decide.{ℕ-discrete}
 use mir.Val.{boolByte}
 use lib.Dec.{eqb}
 use lib.ListN.{set}
-use lib.Seq.{getD-set-same, getD-set-other, set-getD}
+use lib.Seq.{getD-set-same, getD-set-other}
 use borrow.Author.Tests.{eq-eqb, ne-eqb}
 use Rattle.pins.proofs.Bools.{clash, and-false, and-true}
 use Rattle.pins.proofs.First.{First, first-le-24, first-found, first-of, first-none, first-none-of}
 use Rattle.entries.specs.declared.Entries.{Entries}
 use Rattle.entries.specs.Word.{levelOf, remoteOf, maskedOf, modeOf, withRemote, written, shown}
 use Rattle.entries.specs.Pin.{asserted, eligible}
-use Rattle.entries.specs.Inner.{takenWord, heldTaken}
 use Rattle.entries.specs.Table.{lowAt, levelAt, heldAt, withLow, withHeld, eligibleAt, entriesOk, firstEligible, ended, taken, lowShown, lowWritten}
 use Rattle.entries.proofs.Sized.{Sized}
 use Rattle.entries.proofs.Written.{level-written}
@@ -153,16 +151,3 @@ taken-level e i = go (levelOf (lowAt e i))
     go : (b : Bool) → cond b (withLow e (set (e .low) i (withRemote (lowAt e i)))) (withHeld e (set (e .held) i 0)) .level ≡ e .level
     go true = refl
     go false = refl
-
--- ---- what a delivery leaves, part by part, as the code makes it
-
-pub taken-parts : (e : Entries) (i : ℕ) → taken e i ≡ withHeld (withLow e (set (e .low) i (takenWord (lowAt e i)))) (set (e .held) i (heldTaken (lowAt e i) (heldAt e i)))
-unfolding taken takenWord heldTaken
-taken-parts e i = go (levelOf (lowAt e i))
-  where
-    go :
-        (b : Bool) →
-        cond b (withLow e (set (e .low) i (withRemote (lowAt e i)))) (withHeld e (set (e .held) i 0))
-        ≡ withHeld (withLow e (set (e .low) i (cond b (withRemote (lowAt e i)) (lowAt e i)))) (set (e .held) i (cond b (heldAt e i) 0))
-    go true = ap (withHeld (withLow e (set (e .low) i (withRemote (lowAt e i))))) (sym (set-getD (e .held) i 0))
-    go false = ap (λ (w : List ℕ). withHeld (withLow e w) (set (e .held) i 0)) (sym (set-getD (e .low) i 0))

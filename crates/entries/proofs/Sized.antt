@@ -66,10 +66,6 @@ module _ (e : Entries) (z : Sized e) where
         (set-out (e .held) n (heldAfter (lowAt e n) (levelAt e n) x (heldAt e n)) (past (e .held) (z .held)))
         (set-out (e .level) n x (past (e .level) (z .level)))
 
-    pub taken-above : taken e n ≡ e
-    unfolding taken levelOf
-    taken-above = rw low-above (ap (withHeld e) (set-out (e .held) n 0 (past (e .held) (z .held))))
-
     pub low-shown-above : lowShown e n ≡ 0
     unfolding lowShown shown eligible asserted modeOf maskedOf levelOf remoteOf
     low-shown-above = rw (low-above, held-above)

@@ -1,10 +1,10 @@
 // The 24 entries, and what each step makes of them.
 ghost use mathlib.Core.Path.{_≡_};
-ghost use Rattle.entries.specs.Table.{resetEntries, firstEligible, lowAt, destinationAt, ended, given, taken, lowShown, highShown, lowWritten, highWritten};
+ghost use Rattle.entries.specs.Table.{resetEntries, firstEligible, destinationAt, ended, lowShown, highShown, lowWritten, highWritten};
 ghost use Rattle.entries.specs.Inner.{eligiblePins};
 use crate::Entries;
+use crate::EntryDecision;
 use crate::Low;
-use answers::Answer;
 
 impl Entries {
     pub const PINS: usize = 24;
@@ -76,53 +76,11 @@ impl Entries {
 
     // There is no pin above 23: from here on its words read as 0, and nothing changes.
 
-    // Pin n's low word.
-    fn low_at(self, n: usize) -> u32
-        ensures { λ r. ⌜ r ≡ lowAt self n ⌝ }
-    {
-        let low = self.low;
-        if n < Entries::PINS { low[n] } else { 0 }
-    }
-
     fn destination_at(self, n: usize) -> u8
         ensures { λ r. ⌜ r ≡ destinationAt self n ⌝ }
     {
         let destination = self.destination;
         if n < Entries::PINS { destination[n] } else { 0 }
-    }
-
-    // What a delivery of a pin gives.
-    pub fn given(self, pin: u8) -> Answer
-        ensures { λ r. ⌜ r ≡ given self pin ⌝ }
-    {
-        let n = pin as usize;
-        let low = Low(self.low_at(n));
-        Answer::Interrupt {
-            pin,
-            vector: low.vector(),
-            destination: self.destination_at(n),
-            logical: low.logical(),
-        }
-    }
-
-    pub fn taken(self, n: usize) -> Entries
-        ensures { λ r. ⌜ r ≡ taken self n ⌝ }
-    {
-        let mut words = self.low;
-        let mut held = self.held;
-        if n < Entries::PINS {
-            let low = Low(words[n]);
-            words[n] = low.taken();
-            held[n] = low.held_taken(held[n]);
-        }
-        let destination = self.destination;
-        let level = self.level;
-        Entries {
-            low: words,
-            destination,
-            level,
-            held,
-        }
     }
 
     pub fn low_shown(self, n: usize) -> u32
@@ -147,24 +105,9 @@ impl Entries {
     pub fn low_written(self, n: usize, value: u32) -> Entries
         ensures { λ r. ⌜ r ≡ lowWritten self n value ⌝ }
     {
-        if Entries::PINS <= n {
-            return self;
-        }
-        let mut low = self.low;
-        let mut held = self.held;
-        let word = Low(low[n]).written(value);
-        low[n] = word;
-        if Low(word).is_level() {
-            held[n] = 0;
-        }
-        let destination = self.destination;
-        let level = self.level;
-        Entries {
-            low,
-            destination,
-            level,
-            held,
-        }
+        let low = self.low;
+        let held = self.held;
+        self.renewed(EntryDecision::write(n, value, &low, &held))
     }
 
     pub fn high_written(self, n: usize, value: u32) -> Entries

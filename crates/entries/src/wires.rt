@@ -1,7 +1,7 @@
 // The wires of the pins change.
 ghost use mathlib.Core.Path.{_≡_};
 ghost use Rattle.entries.specs.Table.{wired};
-ghost use Rattle.entries.specs.Inner.{edgePins, activeLows, wiredAt};
+ghost use Rattle.entries.specs.Inner.{edgePins, activeLows};
 use crate::Entries;
 use crate::Low;
 use crate::pin::held_by;
@@ -45,27 +45,6 @@ impl Entries {
             held[i] = held_by(edges[i], lows[i], level[i], levels[i], held[i]);
             i += 1;
         }
-        let destination = self.destination;
-        Entries {
-            low,
-            destination,
-            level: levels,
-            held,
-        }
-    }
-
-    // One wire changes. There is no pin above 23.
-    pub fn wired_at(self, n: usize, level: u8) -> Entries
-        ensures { λ r. ⌜ r ≡ wiredAt self n level ⌝ }
-    {
-        if Entries::PINS <= n {
-            return self;
-        }
-        let low = self.low;
-        let mut levels = self.level;
-        let mut held = self.held;
-        held[n] = Low(low[n]).held_after(levels[n], level, held[n]);
-        levels[n] = level;
         let destination = self.destination;
         Entries {
             low,

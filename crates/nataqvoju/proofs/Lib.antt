@@ -1,3 +1,6 @@
 pub mod Decided
 mod Served
 mod Tested
+mod Rows
+mod Apart
+mod Lending

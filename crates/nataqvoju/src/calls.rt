@@ -1,20 +1,26 @@
-// The board's calls by value, with the answer as numbers, of a board that the entry has tested already. A wire change and an
-// advance are made at the pins concerned, which is the call on a well-formed board only.
+// The board's calls with the answer as numbers, of a board that the entry has tested already: on a copy, or on the
+// arrays that are lent. A wire change and an advance are made at the pins concerned, which is the call on a well-formed
+// board only.
 ghost use mathlib.Core.Path.{_≡_};
 ghost use mathlib.Core.Bool.{true};
+ghost use Prim.Native.Nat.{_%_, _^_};
 ghost use Rattle.answers.specs.declared.Answer.the-variants as answer;
 ghost use Rattle.answers.specs.declared.Refusal.the-variants as refusal;
 ghost use Rattle.answers.specs.Numbers.{numbersOf};
 ghost use Rattle.board.specs.declared.Call.the-variants as call;
 ghost use Rattle.board.specs.Formed.{wellFormed};
+ghost use Rattle.board.specs.declared.Board.{Board as AnyBoard};
+ghost use Rattle.board.specs.State.{withEntry, withWires};
+ghost use Rattle.board.specs.At.{lowWriteAt};
 ghost use Rattle.board.specs.Step.{readingOf, writingOf, wiringOf, endingOf, advancingOf, deliveringOnBoard, turnOf};
-ghost use Rattle.nataqvoju.specs.Lent.{outOf};
+ghost use Rattle.nataqvoju.specs.Lent.{outOf, Gives};
 use crate::Out;
 use answers::Answer;
 use answers::Numbers;
 use answers::Refusal;
 use board::Board;
 use board::Turn;
+use controller::Controller;
 
 fn out(turn: Turn) -> Out
     ensures { λ r. ⌜ r ≡ outOf turn ⌝ }
@@ -52,10 +58,33 @@ pub fn write(b: Board, window: u64, width: u64, offset: u64, value: u64) -> Out
     out(b.writing(window, width, offset, value))
 }
 
-pub fn wire(b: Board, pin: u64, level: u64) -> Out
-    ensures { λ r. ⌜ (wellFormed b ≡ true → r ≡ outOf (wiringOf b pin level)) ⌝ }
+// A write of pin n's low word.
+pub fn write_low(n: usize, value: u64, low: &mut [u32; 24], held: &mut [u8; 24]) -> Numbers
+    ensures { λ r. ⌜ ((b : AnyBoard)
+        → Gives (lowWriteAt (withEntry b (now (low .entry)) (now (held .entry))) n (value % 2 ^ 32))
+        (withEntry b (now (low .exit)) (now (held .exit))) r) ⌝ }
 {
-    out(b.wiring(pin, level))
+    let answer = Board::write_in_place(n, (value % Controller::VALUE_END) as u32, low, held);
+    answer.numbers()
+}
+
+pub fn wire(
+    b: Board,
+    pin: u64,
+    level: u64,
+    levels: &mut [u8; 24],
+    held: &mut [u8; 24],
+    outside: &mut [u8; 24],
+) -> Numbers
+    ensures { λ r. ⌜ (wellFormed b ≡ true
+        → now (levels .entry) ≡ b .controller .entries .level
+        → now (held .entry) ≡ b .controller .entries .held
+        → now (outside .entry) ≡ b .outside
+        → Gives (wiringOf b pin level)
+        (withWires b (now (levels .exit)) (now (held .exit)) (now (outside .exit))) r) ⌝ }
+{
+    let answer = b.wire_in_place(pin, level, levels, held, outside);
+    answer.numbers()
 }
 
 pub fn end(b: Board, vector: u8) -> Out
@@ -70,10 +99,12 @@ pub fn advance(b: Board, ticks: u32) -> Out
     out(b.advancing(ticks))
 }
 
-pub fn deliver(b: Board) -> Out
-    ensures { λ r. ⌜ r ≡ outOf (deliveringOnBoard b) ⌝ }
+pub fn deliver(b: Board, low: &mut [u32; 24], held: &mut [u8; 24]) -> Numbers
+    ensures { λ r. ⌜ Gives (deliveringOnBoard (withEntry b (now (low .entry)) (now (held .entry))))
+        (withEntry b (now (low .exit)) (now (held .exit))) r ⌝ }
 {
-    out(b.delivering())
+    let answer = b.deliver_in_place(low, held);
+    answer.numbers()
 }
 
 // The numbers of refusal 5.

@@ -1,5 +1,6 @@
-// The monitor's entry: the board lent by the monitor and changed where it lies. The answers are those of the board's own calls,
-// as numbers. Every byte pattern of the lent memory is a board: one that is not well formed gets 5 and stays as it is.
+// The monitor's entry: the board lent by the monitor and changed where it lies. The answers are those of the board's
+// own calls, as numbers. Every byte pattern of the lent memory is a board: one that is not well formed gets 5 and stays
+// as it is. A call that changes one pin lends on the arrays that it changes; the others go by a copy that is stored back.
 mod calls;
 
 ghost use mathlib.Core.Path.{_≡_};
@@ -9,6 +10,7 @@ ghost use Rattle.board.specs.Step.{turnOf};
 ghost use Rattle.nataqvoju.specs.Lent.{Gives};
 use answers::Numbers;
 use board::Board;
+use entries::Entries;
 
 pub struct Out {
     pub board: Board,
@@ -57,6 +59,15 @@ pub extern "C" fn nataqvoju_write(
     ensures { λ r. ⌜ Gives (turnOf (now (b .entry)) (call.Write window width offset value)) (now (b .exit)) r ⌝ }
 {
     if formed(b) {
+        let n = Board::low_pin(b.controller.index, window, width, offset, value);
+        if n < Entries::PINS {
+            return calls::write_low(
+                n,
+                value,
+                &mut b.controller.entries.low,
+                &mut b.controller.entries.held,
+            );
+        }
         let s = *b;
         let o = calls::write(s, window, width, offset, value);
         *b = o.board;
@@ -71,9 +82,14 @@ pub extern "C" fn nataqvoju_wire(b: &mut Board, pin: u64, level: u64) -> Numbers
 {
     if formed(b) {
         let s = *b;
-        let o = calls::wire(s, pin, level);
-        *b = o.board;
-        return o.numbers;
+        return calls::wire(
+            s,
+            pin,
+            level,
+            &mut b.controller.entries.level,
+            &mut b.controller.entries.held,
+            &mut b.outside,
+        );
     }
     calls::refused()
 }
@@ -110,9 +126,11 @@ pub extern "C" fn nataqvoju_deliver(b: &mut Board) -> Numbers
 {
     if formed(b) {
         let s = *b;
-        let o = calls::deliver(s);
-        *b = o.board;
-        return o.numbers;
+        return calls::deliver(
+            s,
+            &mut b.controller.entries.low,
+            &mut b.controller.entries.held,
+        );
     }
     calls::refused()
 }
