@@ -127,6 +127,8 @@ fn of_the_board(taker: &mut impl Taker) {
     row!(taker, "end", &board, keep, end(0x31));
     let hold_first = |board: &mut Board| board.controller.entries.held[0] = 1;
     row!(taker, "deliver, pin 0", &board, hold_first, deliver());
+    let hold_middle = |board: &mut Board| board.controller.entries.held[12] = 1;
+    row!(taker, "deliver, pin 12", &board, hold_middle, deliver());
     let hold_last = |board: &mut Board| board.controller.entries.held[23] = 1;
     row!(taker, "deliver, pin 23", &board, hold_last, deliver());
     row!(taker, "deliver, none eligible", &board, keep, deliver());

@@ -5,6 +5,7 @@ pub mod Formed
 pub mod Pulse
 pub mod Apart
 pub mod Delivery
+pub mod Keys
 pub mod Decided
 pub mod Gained
 pub mod One

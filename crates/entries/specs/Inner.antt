@@ -1,6 +1,6 @@
 -- The same meanings as the code works them out, in bytes, in parts or at one pin: only inner functions cite these, and
 -- `proofs/` has that each is what Pin.antt and Table.antt say.
-use Prim.Native.Nat.{ℕ}
+use Prim.Native.Nat.{ℕ, _*_, _/_, _%_, _^_}
 use mathlib.Core.Bool.{Bool, not, cond, _&&_}
 use mathlib.Core.List.{List}
 use lib.Dec.{eqb, leb}
@@ -8,8 +8,8 @@ use lib.ListN.{getD, set}
 use mir.Val.{boolByte}
 use Rattle.pins.specs.Pins.{pins, every, bitsOf}
 use Rattle.entries.specs.declared.Entries.{Entries}
-use Rattle.entries.specs.Word.{activeLowOf, levelOf, maskedOf, withRemote, wordOk}
-use Rattle.entries.specs.Pin.{heldAfter}
+use Rattle.entries.specs.Word.{modeOf, activeLowOf, remoteOf, levelOf, maskedOf, withRemote, wordOk}
+use Rattle.entries.specs.Pin.{asserted, heldAfter, eligible}
 use Rattle.entries.specs.Table.{lowAt, levelAt, heldAt, withHeld, withLevel, eligibleAt}
 
 -- ---- edges, from bytes
@@ -37,6 +37,24 @@ wiredAt e p x = withLevel (withHeld e (set (e .held) p (heldAfter (lowAt e p) (l
 -- the eligible pins as one number: bit i is 1 where pin i is eligible
 unfoldable pub eligiblePins : Entries → ℕ
 eligiblePins e = bitsOf (eligibleAt e)
+
+-- an eligible edge pin, and an eligible level pin
+unfoldable pub edgeEligible : ℕ → ℕ → Bool
+edgeEligible w held = not (maskedOf w) && eqb (modeOf w) 0 && (not (levelOf w) && eqb held 1)
+
+unfoldable pub levelEligible : ℕ → ℕ → Bool
+levelEligible w level = not (maskedOf w) && eqb (modeOf w) 0 && (levelOf w && asserted w level && not (remoteOf w))
+
+-- bits 16:1 of a low word, its key; twice a key is a low word that has them
+unfoldable pub keyOf : ℕ → ℕ
+keyOf w = w / 2 % 2 ^ 16
+
+unfoldable pub keysOf : List ℕ → List ℕ
+keysOf w = pins (λ i. keyOf (getD w i 0))
+
+-- whether pin i is eligible, by its key, level and held edge
+abbrev pub eligibleByKey : List ℕ → List ℕ → List ℕ → ℕ → Bool
+eligibleByKey k l h i = eligible (getD k i 0 * 2) (getD l i 0) (getD h i 0)
 
 -- a delivered pin's word and held edge
 unfoldable pub takenWord : ℕ → ℕ

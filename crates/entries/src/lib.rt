@@ -2,6 +2,7 @@
 // An array is taken out of the entries before one of its elements is read or stored: a struct with an element of it indexed
 // is kept in memory and copied whole, one whose parts are only moved is not.
 mod decision;
+mod eligible;
 mod pin;
 mod strike;
 mod table;

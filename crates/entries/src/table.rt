@@ -1,7 +1,6 @@
 // The 24 entries, and what each step makes of them.
 ghost use mathlib.Core.Path.{_≡_};
-ghost use Rattle.entries.specs.Table.{resetEntries, firstEligible, destinationAt, ended, lowShown, highShown, lowWritten, highWritten};
-ghost use Rattle.entries.specs.Inner.{eligiblePins};
+ghost use Rattle.entries.specs.Table.{resetEntries, destinationAt, ended, lowShown, highShown, lowWritten, highWritten};
 use crate::Entries;
 use crate::EntryDecision;
 use crate::Low;
@@ -21,37 +20,6 @@ impl Entries {
             level: [0; 24],
             held: [0; 24],
         }
-    }
-
-    pub fn first_eligible(self) -> usize
-        ensures { λ r. ⌜ r ≡ firstEligible self ⌝ }
-    {
-        let low = self.low;
-        let level = self.level;
-        let held = self.held;
-        let mut i: usize = 0;
-        while i < Entries::PINS {
-            if Low(low[i]).eligible(level[i], held[i]) {
-                return i;
-            }
-            i += 1;
-        }
-        i
-    }
-
-    pub fn eligible_pins(self) -> u32
-        ensures { λ r. ⌜ r ≡ eligiblePins self ⌝ }
-    {
-        let low = self.low;
-        let level = self.level;
-        let held = self.held;
-        let mut mask: u32 = 0;
-        let mut i: usize = Entries::PINS;
-        while 0 < i {
-            i -= 1;
-            mask = mask << 1 | Low(low[i]).eligible(level[i], held[i]) as u32;
-        }
-        mask
     }
 
     pub fn ended(self, vector: u8) -> Entries
