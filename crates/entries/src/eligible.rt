@@ -99,7 +99,7 @@ impl Entries {
         mask
     }
 
-    // Pins 8 to 15 stand in both: one loop, run twice over sixteen pins, is compiled best.
+    // Pins 8 to 15 stand in both. docs/BENCHMARKS.md has other ways to part the pins.
     pub fn eligible_pins(self) -> u32
         ensures { λ r. ⌜ r ≡ eligiblePins self ⌝ }
     {
