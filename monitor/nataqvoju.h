@@ -11,7 +11,7 @@
  *     nataqvoju_wire(&board, 0, 1);
  *     NataqvojuNumbers n = nataqvoju_deliver(&board);       n.delivered == 1, n.pin == 0, n.vector == 0x20
  *
- * What is promised (proved, for every argument and for every byte pattern of the 288 bytes):
+ * What is promised (proved, for every argument and for every byte pattern of the 304 bytes):
  *   - the board after a call, and the numbers that come back, are exactly those of the board's own call by value;
  *   - a refused call leaves every byte of the board as it was, and gives value 0, counts 0 and no delivery;
  *   - memory that is not a well-formed board is answered with 5 by every call but a reset, which takes any memory;
@@ -19,18 +19,19 @@
  * What is measured and not proved: how long a call takes (docs/BENCHMARKS.md). No call walks ticks or firings one by one,
  * but for the plain engine's advance.
  * What is the caller's to see to:
- *   - `board` is not null, is aligned to 8 bytes and points to 288 bytes that may be read and written (by a read call: read);
+ *   - `board` is not null, is aligned to 8 bytes and points to 304 bytes that may be read and written (by a read call:
+ *     read);
  *   - nothing else writes those bytes during a call, and nothing else reads them but another read call: one caller at a time
  *     for each board (different boards are independent, and may be used by different threads at once). The caller's own lock,
  *     if it needs one, goes around the call;
  *   - these declarations, and the C compiler that reads them, follow the platform's C calling convention (x86-64 System V).
  *
  * Layout: no byte is padding, every field is an unsigned number, little-endian as the machine is. So a board is saved,
- * compared, sent and restored as 288 plain bytes. docs/MONITOR.md has the rest.
+ * compared, sent and restored as 304 plain bytes. docs/MONITOR.md has the rest.
  *
  * The board's calls are in libnataqvoju.a. A monitor that shows whether the machine is paused lends a NataqvojuMill
- * instead, a board with its pause screen, to the one function of libnataqvoju_mill.a (below, "the mill"). What is said
- * above of a board holds of a mill and its 296 bytes too, but that a read of a mill has to be the only call on it.
+ * instead, a board with its pause screen, to the functions of libnataqvoju_mill.a (below, "the mill"). What is said
+ * above of a board holds of a mill and its 312 bytes too, but that a read of a mill has to be the only call on it.
  *
  * A test bench that wants a second opinion lends the same board to the plain engine, the one function of
  * libnataqvoju_plain.a, which walks every tick (below, "the plain engine").
@@ -48,14 +49,14 @@
 extern "C" {
 #endif
 
-/* ---- the state: 288 bytes, alignment 8 ---- */
+/* ---- the state: 304 bytes, alignment 8 ---- */
 
 /* One timer. Flags are 0 or 1. A level-type timer's line is active high: with its interrupt enabled and the block enabled,
  * it holds the wire of its pin high as long as its status is 1. */
 typedef struct {
     uint64_t comparator;     /* below 2^32 in 32-bit mode */
     uint64_t period;         /* below 2^32 in 32-bit mode */
-    uint16_t route;          /* the pin that it is routed to, at most 23 */
+    uint16_t route;          /* the pin that it is routed to, one of its mask */
     uint8_t level_type;      /* bit 1 of its configuration: 1 level, 0 edge */
     uint8_t interrupt;       /* bit 2: interrupt enable */
     uint8_t periodic;        /* bit 3 */
@@ -64,9 +65,13 @@ typedef struct {
     uint8_t status;          /* its bit of the status register: 0 if it is edge type */
 } NataqvojuTimer;
 
+/* The block, with what the settings say of it. No call but a reset changes vendor, tick_period and masks. */
 typedef struct {
-    uint64_t counter; /* the main counter */
-    uint64_t enabled; /* 0 or 1 */
+    uint64_t counter;     /* the main counter */
+    uint32_t tick_period; /* a tick's length in femtoseconds, 1 to 100,000,000 */
+    uint32_t vendor;      /* below 2^16 */
+    uint32_t masks[3];    /* for each timer the pins that it can be routed to, pin n at bit n: nonzero, below 2^24 */
+    uint32_t enabled;     /* 0 or 1 */
     NataqvojuTimer timer[3];
 } NataqvojuTimers;
 
@@ -84,6 +89,7 @@ typedef struct {
     NataqvojuEntries entries;
 } NataqvojuController;
 
+/* Zero bytes are no board: a tick has a length, and a mask has a pin. A reset makes a board out of any memory. */
 typedef struct {
     NataqvojuTimers timers;
     NataqvojuController controller;
@@ -107,17 +113,22 @@ typedef struct {
 
 /* NataqvojuNumbers.number, and NataqvojuSalvaged.number. A board or a mill that is not well formed is tested for first.
  * An access then tests for the window, width and alignment, the offset, the value; a wire change for the pin, then the
- * level; a telling for the pin, then its entry. The board's calls give 0 to 5 only, a salvage 0 and 12. */
+ * level; a telling for the pin, then its entry; a reset with settings, which takes any memory, for the record's length,
+ * its mark, its form and its numbers. The board's other calls give 0 to 5 only, a salvage 0 and 12. */
 enum {
     NATAQVOJU_DONE = 0,
-    NATAQVOJU_NO_PLACE = 1,  /* the window, or the offset in it, doesn't exist */
-    NATAQVOJU_BAD_WIDTH = 2, /* width or alignment isn't allowed */
-    NATAQVOJU_NO_PIN = 3,    /* pin above 23 */
-    NATAQVOJU_BAD_VALUE = 4, /* wire level above 1, or a 4-byte write with a value above 4,294,967,295 */
-    NATAQVOJU_BAD_STATE = 5, /* the lent memory is not a well-formed board, or mill */
-    NATAQVOJU_NO_KIND = 7,   /* the mill has no call of this kind */
-    NATAQVOJU_NO_ROOM = 12,  /* the records or the list of a salvage don't fit */
-    NATAQVOJU_NOT_EDGE = 14  /* the pause pin that is told has a level entry */
+    NATAQVOJU_NO_PLACE = 1,      /* the window, or the offset in it, doesn't exist */
+    NATAQVOJU_BAD_WIDTH = 2,     /* width or alignment isn't allowed */
+    NATAQVOJU_NO_PIN = 3,        /* pin above 23 */
+    NATAQVOJU_BAD_VALUE = 4,     /* wire level above 1, or a 4-byte write with a value above 4,294,967,295 */
+    NATAQVOJU_BAD_STATE = 5,     /* the lent memory is not a well-formed board, or mill */
+    NATAQVOJU_BAD_MARK = 6,      /* a settings record doesn't begin with 5A C3 */
+    NATAQVOJU_NO_KIND = 7,       /* the mill has no call of this kind */
+    NATAQVOJU_BAD_LENGTH = 8,    /* a settings record hasn't 22 bytes */
+    NATAQVOJU_NO_FORM = 9,       /* a settings record's form isn't 1 */
+    NATAQVOJU_OUT_OF_RANGE = 10, /* a number of the settings is out of range */
+    NATAQVOJU_NO_ROOM = 12,      /* the records or the list of a salvage don't fit */
+    NATAQVOJU_NOT_EDGE = 14      /* the pause pin that is told has a level entry */
 };
 
 /* ---- windows and registers ---- */
@@ -154,7 +165,7 @@ enum { /* what the index chooses; entry n's low word is at 0x10 + 2n, its high w
  *   - in 32-bit mode: bits 8, 6 and 3, the low half first, then the high half;
  *   - in 64-bit mode: the comparator's halves as one-shot, then bit 3 without bit 6, then the period's halves. */
 enum { /* of the timers' window; timer n's configuration is at 0x100 + 0x20n, its comparator 8 above */
-    NATAQVOJU_CAPABILITIES = 0x000,
+    NATAQVOJU_CAPABILITIES = 0x000, /* tick period << 32 | vendor << 16 | 0x2201 */
     NATAQVOJU_CONFIGURATION = 0x010,
     NATAQVOJU_STATUS = 0x020,
     NATAQVOJU_COUNTER = 0x0F0,
@@ -167,8 +178,31 @@ enum { /* of the timers' window; timer n's configuration is at 0x100 + 0x20n, it
 /* ---- the calls ---- */
 
 /* The reset state, whatever was there: also the way to make a board out of fresh memory. Always done. Outside wires are low
- * after it: a monitor whose lines stay high through a reset wires them again. */
+ * after it: a monitor whose lines stay high through a reset wires them again. The settings are document 01's, also on a
+ * board that had others: vendor 0x8086, 100,000,000 femtoseconds, all 24 pins for each timer, id 0. */
 NataqvojuNumbers nataqvoju_reset(NataqvojuBoard *board);
+
+/* A settings record: 22 bytes, numbers little-endian. `./nataqvoju settings make` writes one.
+ *    0  the mark 5A C3
+ *    2  the form, 1
+ *    3  vendor, two bytes: any
+ *    5  a tick's length in femtoseconds, four bytes: 1 to 100,000,000
+ *    9  for each timer the pins that it can be routed to, pin n at bit n, three times four bytes: nonzero, below 2^24
+ *   21  the controller's id, one byte: at most 15 */
+enum { NATAQVOJU_SETTINGS_LENGTH = 22 };
+
+/* The reset state with the settings of a record, whatever was there. Refused, in this order, with 8 for any length but
+ * 22, with 6 for another mark, 9 for another form, 10 for a number out of range; never with 5. Refused, nothing is
+ * reset: every byte of the board is as it was, also of memory that is no board. What the settings do:
+ *   - the capabilities show the vendor and a tick's length, bits 63:32 of a timer's configuration its mask;
+ *   - a timer's route is its mask's lowest pin. A route that is written and not in the mask keeps the old one, and the
+ *     other bits are taken;
+ *   - the controller's id is the settings'. A write to that register changes the register and nothing else.
+ * They stay until the next reset, which has its own record, or document 01's settings if it has none.
+ * What is the caller's to see to, beside what is said of `board` above: `record` is not null, not even where the length
+ * is 0, and points to `length` bytes, which are only read; they don't overlap the board, and nothing else writes them
+ * during the call. */
+NataqvojuNumbers nataqvoju_reset_settings(NataqvojuBoard *board, const uint8_t *record, size_t length);
 
 /* A register read: value. The board stays as it is. Refused with 5, 1, 2. */
 NataqvojuNumbers nataqvoju_read(const NataqvojuBoard *board, uint64_t window, uint64_t width, uint64_t offset);
@@ -212,7 +246,7 @@ static inline uint64_t nataqvoju_next_firing(const NataqvojuBoard *board) {
     return least + 1;
 }
 
-/* ---- the mill, of libnataqvoju_mill.a: a board with its pause screen, 296 bytes, alignment 8 ---- */
+/* ---- the mill, of libnataqvoju_mill.a: a board with its pause screen, 312 bytes, alignment 8 ---- */
 
 /* The screen is told which pin is the pause key, and from then on says how far a pause has come. */
 typedef struct {
@@ -243,7 +277,8 @@ enum {
     NATAQVOJU_PAUSED = 3
 };
 
-/* The mill's calls, as kinds of its one function: a log's six, then those that no log has. */
+/* The mill's calls, as kinds of one function: a log's six, then those that no log has. A reset with settings is the one
+ * call that has no kind, but a function of its own. */
 enum {
     NATAQVOJU_MILL_READ = 1,    /* a window, b width, c offset */
     NATAQVOJU_MILL_WRITE = 2,   /* a window, b width, c offset, d value */
@@ -262,7 +297,12 @@ enum {
  * refused call leaves every byte of the mill as it was. */
 NataqvojuNumbers nataqvoju_mill(NataqvojuMill *mill, uint64_t kind, uint64_t a, uint64_t b, uint64_t c, uint64_t d);
 
-/* The reset state of the board, no pin told, whatever was there. Always done. The pause key has to be told again. */
+/* The reset state of the board with the settings of a record, no pin told, whatever was there. The answers are those of
+ * nataqvoju_reset_settings. Refused, every byte of the mill is as it was, its screen's too. */
+NataqvojuNumbers nataqvoju_mill_reset_settings(NataqvojuMill *mill, const uint8_t *record, size_t length);
+
+/* The reset state of the board, no pin told, whatever was there. Always done. The pause key has to be told again. The
+ * settings are document 01's, as after nataqvoju_reset. */
 static inline NataqvojuNumbers nataqvoju_mill_reset(NataqvojuMill *mill) {
     return nataqvoju_mill(mill, NATAQVOJU_MILL_RESET, 0, 0, 0, 0);
 }
@@ -314,7 +354,7 @@ static inline NataqvojuNumbers nataqvoju_mill_resume(NataqvojuMill *mill) {
 /* ---- the plain engine, of libnataqvoju_plain.a: the same board, done a second time in the most obvious way ---- */
 
 /* For a test bench that doesn't take the board's calls on trust. It makes each call on two boards, by the functions above
- * and by nataqvoju_plain, and compares the numbers and the 288 bytes. Each is proved to do what one and the same
+ * and by nataqvoju_plain, and compares the numbers and the 304 bytes. Each is proved to do what one and the same
  * definition says, for every call on any memory; they share no code. An advance walks every tick, which takes a while:
  * docs/BENCHMARKS.md says how long. A long one can be made in portions, whose counts are added up. It is not for a
  * monitor at work.
@@ -335,7 +375,8 @@ enum {
  * list gets 7. A refused call leaves every byte of the board as it was. */
 NataqvojuNumbers nataqvoju_plain(NataqvojuBoard *board, uint64_t kind, uint64_t a, uint64_t b, uint64_t c, uint64_t d);
 
-/* The reset state, whatever was there. Always done. */
+/* The reset state with document 01's settings, whatever was there. Always done. The plain engine serves a board with
+ * other settings as well: nataqvoju_reset_settings makes one. */
 static inline NataqvojuNumbers nataqvoju_plain_reset(NataqvojuBoard *board) {
     return nataqvoju_plain(board, NATAQVOJU_PLAIN_RESET, 0, 0, 0, 0);
 }
@@ -424,9 +465,12 @@ NATAQVOJU_CHECK(sizeof(NataqvojuTimer) == 24);
 NATAQVOJU_ALIGNED(NataqvojuTimer, 8);
 
 NATAQVOJU_AT(NataqvojuTimers, counter, 0);
-NATAQVOJU_AT(NataqvojuTimers, enabled, 8);
-NATAQVOJU_AT(NataqvojuTimers, timer, 16);
-NATAQVOJU_CHECK(sizeof(NataqvojuTimers) == 88);
+NATAQVOJU_AT(NataqvojuTimers, tick_period, 8);
+NATAQVOJU_AT(NataqvojuTimers, vendor, 12);
+NATAQVOJU_AT(NataqvojuTimers, masks, 16);
+NATAQVOJU_AT(NataqvojuTimers, enabled, 28);
+NATAQVOJU_AT(NataqvojuTimers, timer, 32);
+NATAQVOJU_CHECK(sizeof(NataqvojuTimers) == 104);
 NATAQVOJU_ALIGNED(NataqvojuTimers, 8);
 
 NATAQVOJU_AT(NataqvojuEntries, low, 0);
@@ -443,9 +487,9 @@ NATAQVOJU_CHECK(sizeof(NataqvojuController) == 176);
 NATAQVOJU_ALIGNED(NataqvojuController, 4);
 
 NATAQVOJU_AT(NataqvojuBoard, timers, 0);
-NATAQVOJU_AT(NataqvojuBoard, controller, 88);
-NATAQVOJU_AT(NataqvojuBoard, outside, 264);
-NATAQVOJU_CHECK(sizeof(NataqvojuBoard) == 288);
+NATAQVOJU_AT(NataqvojuBoard, controller, 104);
+NATAQVOJU_AT(NataqvojuBoard, outside, 280);
+NATAQVOJU_CHECK(sizeof(NataqvojuBoard) == 304);
 NATAQVOJU_ALIGNED(NataqvojuBoard, 8);
 
 NATAQVOJU_AT(NataqvojuNumbers, value, 0);
@@ -467,8 +511,8 @@ NATAQVOJU_CHECK(sizeof(NataqvojuScreen) == 8);
 NATAQVOJU_ALIGNED(NataqvojuScreen, 2);
 
 NATAQVOJU_AT(NataqvojuMill, board, 0);
-NATAQVOJU_AT(NataqvojuMill, screen, 288);
-NATAQVOJU_CHECK(sizeof(NataqvojuMill) == 296);
+NATAQVOJU_AT(NataqvojuMill, screen, 304);
+NATAQVOJU_CHECK(sizeof(NataqvojuMill) == 312);
 NATAQVOJU_ALIGNED(NataqvojuMill, 8);
 
 NATAQVOJU_AT(NataqvojuSalvaged, number, 0);

@@ -13,7 +13,7 @@ built_program() {
   rt check "$1" && [ -x "$program" ] && touch "$program"
 }
 
-# The libraries that a monitor links: the board's seven functions, the mill's one, the salvage's, and the plain engine's.
+# The libraries that a monitor links: the board's functions, the mill's, the salvage's, and the plain engine's.
 libraries=(nataqvoju nataqvoju_mill nataqvoju_salvage nataqvoju_plain)
 
 # archive_of NAME: the path of a library

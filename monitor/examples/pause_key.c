@@ -127,7 +127,7 @@ static void refusals(NataqvojuBoard *b) {
 
 static void not_a_board(void) {
     NataqvojuBoard b, filled, fresh;
-    puts("-- memory that is not a board: 288 bytes of 0xff");
+    puts("-- memory that is not a board: 304 bytes of 0xff");
     memset(&filled, 0xFF, sizeof filled);
     b = filled;
     value("read", nataqvoju_read(&b, NATAQVOJU_CONTROLLER, 4, NATAQVOJU_INDEX));

@@ -116,7 +116,7 @@ static void on_reset(Monitor *m) {
 
 /* ---- save and restore: a version mark, the board's bytes, the lines ---- */
 
-static const uint8_t mark[8] = {'b', 'o', 'a', 'r', 'd', ' ', '1', '\n'};
+static const uint8_t mark[8] = {'b', 'o', 'a', 'r', 'd', ' ', '2', '\n'};
 enum { SAVED = sizeof mark + sizeof(NataqvojuBoard) + PINS };
 
 static void save(Monitor *m, uint8_t bytes[SAVED]) {

@@ -1,7 +1,8 @@
-/* ill_formed.c: a well-formed board with one field broken, for every field and every way to break it alone. Every call but a
- * reset must answer 5 and nothing else, and leave each of the 288 bytes, and the memory around them, as it was.
- * Fields that take any value are tried too: there nothing may be refused. A field is one check, whatever number of values is
- * tried in it. Last line: N passed, M failed. */
+/* ill_formed.c: a well-formed board with one field broken, for every field and every way to break it alone. Every call
+ * but a reset must answer 5 and nothing else, and leave each of the 304 bytes, and the memory around them, as it was. A
+ * reset with settings takes the board, or leaves it as it was for the record's sake, and never answers 5.
+ * Fields that take any value are tried too: there nothing may be refused. A field is one check, whatever number of
+ * values is tried in it. Last line: N passed, M failed. */
 #include <stdio.h>
 #include <string.h>
 
@@ -77,6 +78,13 @@ static struct {
 
 static int unchanged(void) { return memcmp(&lent, &kept, sizeof lent) == 0; }
 
+/* vendor 0x1022, 10,000,000 femtoseconds, pins 2, 8 and 23, id 15; with one byte of it changed */
+static NataqvojuNumbers reset_with(NataqvojuBoard *b, unsigned at, uint8_t byte, size_t length) {
+    uint8_t record[] = {0x5A, 0xC3, 1, 0x22, 0x10, 0x80, 0x96, 0x98, 0, 4, 0, 0, 0, 0, 1, 0, 0, 0, 0, 0x80, 0, 15};
+    record[at] = byte;
+    return nataqvoju_reset_settings(b, record, length);
+}
+
 static int refuses_all(const NataqvojuBoard *b) {
     int ok = 1;
     NataqvojuBoard fresh;
@@ -95,10 +103,18 @@ static int refuses_all(const NataqvojuBoard *b) {
     ok &= bare(nataqvoju_advance(&lent.board, 0), 5) && unchanged();
     ok &= bare(nataqvoju_advance(&lent.board, 4294967295u), 5) && unchanged();
     ok &= bare(nataqvoju_deliver(&lent.board), 5) && unchanged();
+    /* a reset with settings is refused for its record alone */
+    ok &= bare(reset_with(&lent.board, 0, 0x7E, 21), 8) && unchanged();
+    ok &= bare(reset_with(&lent.board, 0, 0x7E, 22), 6) && unchanged();
+    ok &= bare(reset_with(&lent.board, 2, 2, 22), 9) && unchanged();
+    ok &= bare(reset_with(&lent.board, 21, 16, 22), 10) && unchanged();
     /* and a reset takes it */
     memset(&fresh, 0, sizeof fresh);
     nataqvoju_reset(&fresh);
     ok &= bare(nataqvoju_reset(&lent.board), 0) && memcmp(&lent.board, &fresh, sizeof fresh) == 0;
+    reset_with(&fresh, 21, 14, 22);
+    lent.board = kept.board;
+    ok &= bare(reset_with(&lent.board, 21, 14, 22), 0) && memcmp(&lent.board, &fresh, sizeof fresh) == 0;
     lent.board = kept.board;
     return ok && unchanged();
 }
@@ -188,24 +204,51 @@ static void of_pin(unsigned p) {
 
 static void of_block(void) {
     unsigned k;
-    for (k = 1; k < 64; k++) BROKEN(timers.enabled, k, (uint64_t)1 << k);
+    for (k = 1; k < 32; k++) BROKEN(timers.enabled, k, (uint32_t)1 << k);
     BROKEN(timers.enabled, 0, 0); /* the wires that the level timers hold high would fall */
     counted();
     for (k = 0; k < 64; k++) FINE(timers.counter, k, (uint64_t)1 << k);
+    counted();
+    for (k = 0; k < 16; k++) FINE(timers.vendor, k, (uint32_t)1 << k);
+    FINE(timers.vendor, 0, 0);
+    FINE(timers.vendor, 0, 0xFFFF);
+    for (k = 16; k < 32; k++) BROKEN(timers.vendor, k, (uint32_t)1 << k);
+    BROKEN(timers.vendor, 0, 0x10000 | good.timers.vendor);
+    BROKEN(timers.vendor, 0, UINT32_MAX);
+    counted();
+    for (k = 0; k < 27; k++) FINE(timers.tick_period, k, (uint32_t)1 << k);
+    for (k = 27; k < 32; k++) BROKEN(timers.tick_period, k, (uint32_t)1 << k);
+    FINE(timers.tick_period, 0, 100000000);
+    BROKEN(timers.tick_period, 0, 100000001);
+    BROKEN(timers.tick_period, 0, 0);
+    BROKEN(timers.tick_period, 0, UINT32_MAX);
     counted();
 }
 
 static void of_timer(unsigned m) {
     const NataqvojuTimer *t = &good.timers.timer[m];
     unsigned k, bits = t->narrow ? 32 : 64;
+    uint32_t route = t->route, routed = (uint32_t)1 << route;
     for (k = 0; k < bits; k++) FINE(timers.timer[m].comparator, m, (uint64_t)1 << k);
     for (k = bits; k < 64; k++) BROKEN(timers.timer[m].comparator, m, (uint64_t)1 << k);
     counted();
     for (k = 0; k < bits; k++) FINE(timers.timer[m].period, m, (uint64_t)1 << k);
     for (k = bits; k < 64; k++) BROKEN(timers.timer[m].period, m, (uint64_t)1 << k);
     counted();
-    BROKEN(timers.timer[m].route, m, 24);
-    for (k = 5; k < 16; k++) BROKEN(timers.timer[m].route, m, (uint16_t)(1u << k));
+    for (k = 24; k < 32; k++) BROKEN(timers.timer[m].route, m, (uint16_t)k);
+    for (k = 5; k < 16; k++) BROKEN(timers.timer[m].route, m, (uint16_t)(1u << k | route));
+    counted();
+    /* with any pins beside its route, and never without it */
+    FINE(timers.masks[m], m, routed);
+    for (k = 0; k < 24; k++) {
+        uint32_t pin = (uint32_t)1 << k;
+        FINE(timers.masks[m], k, pin | routed);
+        if (k != route) BROKEN(timers.masks[m], k, pin);
+    }
+    BROKEN(timers.masks[m], m, 0);
+    BROKEN(timers.masks[m], m, 0xFFFFFF & ~routed);
+    for (k = 24; k < 32; k++) BROKEN(timers.masks[m], k, good.timers.masks[m] | (uint32_t)1 << k);
+    BROKEN(timers.masks[m], m, UINT32_MAX);
     counted();
     FLAG(timers.timer[m].level_type, m);
     if (t->status) BROKEN(timers.timer[m].level_type, m, 0);
@@ -227,7 +270,33 @@ static void of_timer(unsigned m) {
     counted();
 }
 
-/* ---- the answer depends on the 288 bytes and the arguments alone ---- */
+/* ---- routes and masks: a timer that holds no wire may have any route of its own mask ---- */
+
+static void of_route(unsigned m) {
+    const NataqvojuBoard was = good;
+    unsigned pin, route, all;
+    nataqvoju_reset(&good);
+    for (pin = 0; pin < 24; pin++)
+        for (all = 0; all < 2; all++) {
+            uint32_t mask = all ? 0xFFFFFF & ~((uint32_t)1 << pin) : (uint32_t)1 << pin;
+            unsigned k;
+            /* what this timer's mask has not the others' have; their routes are in theirs */
+            for (k = 0; k < 3; k++) {
+                good.timers.masks[k] = k == m ? mask : 0xFFFFFF & ~mask;
+                for (route = 0; !(good.timers.masks[k] >> route & 1);) route++;
+                good.timers.timer[k].route = (uint16_t)route;
+            }
+            for (route = 0; route < 24; route++)
+                if (mask >> route & 1)
+                    FINE(timers.timer[m].route, pin, (uint16_t)route);
+                else
+                    BROKEN(timers.timer[m].route, pin, (uint16_t)route);
+        }
+    good = was;
+    counted();
+}
+
+/* ---- the answer depends on the 304 bytes and the arguments alone ---- */
 
 static uint64_t seed = 0x9E3779B97F4A7C15u;
 
@@ -273,7 +342,7 @@ static void sequences(void) {
     counted();
 }
 
-/* any 288 bytes are answered; nearly all of them with 5 */
+/* any 304 bytes are answered; nearly all of them with 5 */
 static void any_bytes(void) {
     int s, i, k;
     for (s = 0; s < 200; s++) {
@@ -300,6 +369,7 @@ int main(void) {
     for (p = 0; p < 24; p++) of_pin(p);
     of_block();
     for (m = 0; m < 3; m++) of_timer(m);
+    for (m = 0; m < 3; m++) of_route(m);
     sequences();
     any_bytes();
     printf("%lu passed, %lu failed\n", passed, failed);

@@ -1,6 +1,7 @@
-/* mill.c: the mill's one function, raw and by the names that the header gives its kinds. Each call and each word of the
- * screen, the refusals, every clause of a well-formed screen broken alone, numbers that are wider than a call takes,
- * numbers that a kind ignores, the answers beside the board's own. The memory around the lent mill is watched.
+/* mill.c: the mill's function over kinds, raw and by the names that the header gives them, and its reset with settings.
+ * Each call and each word of the screen, the refusals, every clause of a well-formed screen broken alone, numbers that
+ * are wider than a call takes, numbers that a kind ignores, resets with a record in each word and on memory that is no
+ * mill, the answers beside the board's own. The memory around the lent mill is watched.
  * Last line: N passed, M failed. */
 #include <stdio.h>
 #include <string.h>
@@ -191,6 +192,73 @@ static void of_screen_calls(void) {
     check(refused(nataqvoju_mill_tell(MILL, PAUSE), 14), "a masked level entry: 14");
 }
 
+/* ---- a reset with settings ---- */
+
+/* vendor 0x1022, 10,000,000 femtoseconds, pins 2, 8 and 23, id 15; with one byte of it changed */
+static NataqvojuNumbers reset_with(unsigned at, uint8_t byte, size_t length) {
+    uint8_t record[64] = {0x5A, 0xC3, 1, 0x22, 0x10, 0x80, 0x96, 0x98, 0, 4, 0, 0, 0, 0, 1, 0, 0, 0, 0, 0x80, 0, 15};
+    uint8_t same_record[64];
+    NataqvojuNumbers n;
+    record[at] = byte;
+    memcpy(same_record, record, sizeof record);
+    n = nataqvoju_mill_reset_settings(MILL, record, length);
+    must(memcmp(same_record, record, sizeof record) == 0, "the record is only read", at);
+    return n;
+}
+
+/* whatever the lent mill is: refused for the record alone, in this order, and then it is as it was */
+static int refuses_records(void) {
+    int ok = 1;
+    size_t length;
+    memcpy(&kept, &lent, sizeof lent);
+    for (length = 0; length < 64; length++)
+        if (length != 22) ok &= refused(reset_with(0, 0x7E, length), 8) && refused(reset_with(21, 15, length), 8);
+    ok &= refused(reset_with(0, 0xC3, 22), 6) && refused(reset_with(1, 0x5A, 22), 6);
+    ok &= refused(reset_with(2, 0, 22), 9) && refused(reset_with(2, 2, 22), 9);
+    ok &= refused(reset_with(8, 6, 22), 10);                                        /* the period */
+    ok &= refused(reset_with(9, 0, 22), 10) && refused(reset_with(12, 1, 22), 10);  /* the masks */
+    ok &= refused(reset_with(14, 0, 22), 10) && refused(reset_with(16, 1, 22), 10);
+    ok &= refused(reset_with(19, 0, 22), 10) && refused(reset_with(20, 1, 22), 10);
+    return ok & refused(reset_with(21, 16, 22), 10);
+}
+
+/* done: no pin is told, and the board is the one that the board's own call makes */
+static int takes_record(void) {
+    static const uint8_t record[22] = {0x5A, 0xC3, 1, 0x22, 0x10, 0x80, 0x96, 0x98, 0, 4, 0,
+                                       0,    0,    0, 1,    0,    0,    0,    0,    0x80, 0, 15};
+    NataqvojuMill want;
+    memset(&want, 0, sizeof want);
+    if (!done(nataqvoju_reset_settings(&want.board, record, 22))) return 0;
+    return done(reset_with(21, 15, 22)) && guarded() && memcmp(MILL, &want, sizeof want) == 0;
+}
+
+static void of_settings(void) {
+    NataqvojuMill any, fresh;
+    unsigned word;
+    for (word = 0; word < 4; word++) {
+        unsigned vector = word >= NATAQVOJU_TAKEN ? PAUSE_VECTOR : 0;
+        go_to(word);
+        must(refuses_records() && shows(1, PAUSE, word, vector), "a refused record", word);
+        must(takes_record() && shows(0, 0, 0, 0), "a record", word);
+        must(nataqvoju_mill_read(MILL, 1, 8, 0).value == UINT64_C(0x0098968010222201), "the capabilities", word);
+        must(nataqvoju_mill_read(MILL, 1, 8, 0x120).value == UINT64_C(0x0000010000001030), "a configuration", word);
+        must(nataqvoju_mill_read(MILL, 0, 4, 16).value == 0x0F000000, "the id", word);
+        /* the key is told again, and a press asks; a reset without settings has document 01's */
+        must(done(nataqvoju_mill_tell(MILL, PAUSE)) && entry(PAUSE, EDGE) && press(), "told and pressed", word);
+        must(shows(1, PAUSE, NATAQVOJU_ASKED, 0), "asked", word);
+        memset(&fresh, 0, sizeof fresh);
+        nataqvoju_reset(&fresh.board);
+        must(done(nataqvoju_mill_reset(MILL)) && guarded() && memcmp(MILL, &fresh, sizeof fresh) == 0, "a reset", word);
+        counted();
+    }
+    memset(&any, 0xEE, sizeof any);
+    lend(&any);
+    check(refuses_records() && takes_record(), "memory that is no mill");
+    memset(&any, 0, sizeof any);
+    lend(&any);
+    check(refused(nataqvoju_mill_resume(MILL), 5) && refuses_records() && takes_record(), "zeros are no mill");
+}
+
 /* ---- the raw entry: each kind by its number, with other numbers in the places that it ignores ---- */
 
 #define JUNK UINT64_C(0xA5A5A5A5DEADBEEF)
@@ -355,6 +423,12 @@ static void of_ill_formed(void) {
         good.board.outside[3] = 2;
         must(refuses_all(&good), "the board's outside level", word);
         good.board.outside[3] = 0;
+        good.board.timers.tick_period = 0;
+        must(refuses_all(&good), "the board's tick period", word);
+        good.board.timers.tick_period = 1;
+        good.board.timers.masks[1] = 2;
+        must(refuses_all(&good), "a route that isn't in its mask", word);
+        good.board.timers.masks[1] = 1;
         good.board.controller.entries.held[DRIVE] = 1;
         must(refuses_all(&good), "an edge on a level pin", word);
         counted();
@@ -433,6 +507,7 @@ static void beside_the_board(void) {
 int main(void) {
     of_words();
     of_screen_calls();
+    of_settings();
     of_kinds();
     of_unknown_kinds();
     of_ill_formed();

@@ -1,6 +1,6 @@
 /* plain.c: the plain engine beside the board's own calls. Each call is made on two boards, and the numbers and all
- * bytes have to agree: each kind by its name, refusals, timers of all sorts, memory that is no board, unknown kinds. The
- * memory around the board that the plain engine is lent is watched.
+ * bytes have to agree: each kind by its name, refusals, timers of all sorts, a board with settings, memory that is no
+ * board, unknown kinds. The memory around the board that the plain engine is lent is watched.
  * Last line: N passed, M failed. */
 #include <stdio.h>
 #include <string.h>
@@ -117,6 +117,52 @@ static void of_calls(void) {
     wire(0, 2, 4);
 }
 
+/* The board's own call resets with a record, and each engine serves one of the two. Timer 0 can be routed to pins 4 and
+ * 6, timer 1 to pin 9, timer 2 to pins 20 to 23. */
+static void of_settings(void) {
+    static const uint8_t record[22] = {0x5A, 0xC3, 1, 0x34, 0x12, 0x15, 0xCD, 0x5B, 0, 0x50, 0,
+                                       0,    0,    0, 2,    0,    0,    0,    0,    0xF0, 0, 5};
+    uint64_t offset, route;
+    unsigned m;
+    fill(0xEE);
+    check(same(nataqvoju_reset_settings(&first, record, sizeof record), bare(0)), "a reset with settings");
+    *PLAIN = first;
+    for (offset = 0; offset < 0x160; offset += 4) read(NATAQVOJU_TIMERS, 4, offset, 0);
+    for (offset = 0; offset < 0x160; offset += 8) read(NATAQVOJU_TIMERS, 8, offset, 0);
+    read(NATAQVOJU_CONTROLLER, 4, NATAQVOJU_DATA, 0);
+    write(NATAQVOJU_CONTROLLER, 4, NATAQVOJU_DATA, 0x0A000000, 0);
+    entry(6, 0x36);
+    entry(9, 0x8029);
+    for (m = 0; m < 3; m++)
+        for (route = 0; route < 32; route++) {
+            timer(m, UINT64_C(0xA5A5A5A500000000) | route << 9 | (route & 1) << 1 | 0x4C, 3 + route);
+            write(NATAQVOJU_TIMERS, 4, NATAQVOJU_TIMER + NATAQVOJU_TIMER_STEP * m, (31 - route) << 9 | 0x04, 0);
+            write(NATAQVOJU_TIMERS, 4, NATAQVOJU_TIMER + NATAQVOJU_TIMER_STEP * m + 4, route, 0);
+        }
+    check(first.timers.timer[0].route == 4 && first.timers.timer[1].route == 9 && first.timers.timer[2].route == 23,
+          "the last routes of the masks that were written");
+    timer(0, 6 << 9 | 0x4C, 3);
+    timer(1, 6 << 9 | 0x06, 9);
+    write(NATAQVOJU_TIMERS, 4, NATAQVOJU_CONFIGURATION, 1, 0);
+    advance(40, 0);
+    deliver(0);
+    deliver(0);
+    deliver(0);
+    first.timers.masks[2] = PLAIN->timers.masks[2] = 1;
+    advance(1, 5);
+    deliver(5);
+    first.timers.masks[2] = PLAIN->timers.masks[2] = 0xF00000;
+    first.timers.tick_period = PLAIN->timers.tick_period = 100000001;
+    read(NATAQVOJU_TIMERS, 8, 0, 5);
+    first.timers.tick_period = PLAIN->timers.tick_period = 1;
+    first.timers.vendor = PLAIN->timers.vendor = 0x10000;
+    end(0x29, 5);
+    reset();
+    read(NATAQVOJU_TIMERS, 8, NATAQVOJU_CAPABILITIES, 0);
+    check(first.timers.vendor == 0x8086 && first.timers.tick_period == 100000000 && first.timers.masks[1] == 0xFFFFFF,
+          "a reset without settings has document 01's");
+}
+
 static void of_refusals(void) {
     uint64_t kind;
     NataqvojuBoard kept;
@@ -140,6 +186,7 @@ static void of_refusals(void) {
 
 int main(void) {
     of_calls();
+    of_settings();
     of_refusals();
     printf("%lu passed, %lu failed\n", passed, failed);
     return failed != 0;

@@ -2,6 +2,7 @@
 
 use crate::controller::{Controller, Delivery};
 use crate::pin::PINS;
+use crate::settings::Settings;
 use crate::timers::{Timers, TIMERS};
 
 /// Why a call or a log is refused, by the paper's numbers.
@@ -18,12 +19,16 @@ pub enum Refusal {
     Value = 4,
     /// State not well formed.
     State = 5,
-    /// Log: wrong mark.
+    /// Log, or a settings record: wrong mark.
     Mark = 6,
     /// Log, or a lent entry over a kind: unknown kind.
     Kind = 7,
-    /// Log: record cut short.
+    /// Log: record cut short. Settings: a record, or a buffer for one, of another length.
     Short = 8,
+    /// Settings: unknown form.
+    Form = 9,
+    /// Settings: a number out of range.
+    Range = 10,
     /// A lent buffer has too little room for the answer.
     Room = 12,
     /// The pause key's entry isn't an edge entry.
@@ -44,7 +49,7 @@ pub const TIMER_BLOCK: u64 = 1;
 
 /// The calls; a log can make all but a reset. The model answers them; so does a wrong model.
 pub trait Calls {
-    /// Resets the board, whatever state it is in; the right answer is always that it is done.
+    /// Resets the board without settings, whatever state it is in; the right answer is always that it is done.
     fn reset(&mut self) -> Result<(), Refusal>;
     /// Reads a register.
     fn read(&mut self, window: u64, width: u64, offset: u64) -> Result<u64, Refusal>;
@@ -72,9 +77,24 @@ pub struct Board {
 }
 
 impl Board {
-    /// The board after a reset.
-    pub const RESET: Board =
-        Board { timers: Timers::RESET, controller: Controller::RESET, outside: [false; PINS] };
+    /// The board after a reset without settings, which is document 01's.
+    pub const RESET: Board = Board::reset_to(&Settings::USUAL);
+
+    /// The board after a reset with settings.
+    pub const fn reset_to(settings: &Settings) -> Board {
+        Board {
+            timers: Timers::reset_to(settings),
+            controller: Controller::reset_to(settings),
+            outside: [false; PINS],
+        }
+    }
+
+    /// A reset with settings: it takes any state, and tests the settings alone. Refused, the board stays.
+    pub fn reset_with(&mut self, settings: &Settings) -> Result<(), Refusal> {
+        settings.check_range()?;
+        *self = Board::reset_to(settings);
+        Ok(())
+    }
 
     /// The wire rule, outside a pulse.
     pub fn wire_rule(&self, pin: usize) -> bool {

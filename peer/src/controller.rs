@@ -1,6 +1,7 @@
 //! The interrupt controller's registers, behind its index and data window.
 
 use crate::pin::{Pin, PINS};
+use crate::settings::Settings;
 
 /// Offset of the index register.
 pub const INDEX: u64 = 0x00;
@@ -59,8 +60,10 @@ pub struct Controller {
 }
 
 impl Controller {
-    /// The controller after a reset.
-    pub const RESET: Controller = Controller { id: 0, index: 0, pins: [Pin::RESET; PINS] };
+    /// The controller after a reset with settings: they say what its id starts at.
+    pub const fn reset_to(settings: &Settings) -> Controller {
+        Controller { id: settings.id as u32, index: 0, pins: [Pin::RESET; PINS] }
+    }
 
     /// Whether the window has something at this offset.
     pub fn has_offset(offset: u64) -> bool {

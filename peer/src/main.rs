@@ -7,18 +7,20 @@ use std::process::ExitCode;
 use std::time::SystemTime;
 
 use peer::fuzz::{self, Subject, FIXED_SEED};
-use peer::log::replay_from_reset;
+use peer::log::replay_from;
 use peer::mutants;
 use peer::salvage::salvage;
-use peer::screen::{pin_of, screen_from_reset};
+use peer::screen::{pin_of, screen_from};
+use peer::settings_file;
 
 const HELP: &str = "\
 The second, independent model of the board.
 
-  peer replay [FILE]
-      Replays a log from FILE, or from standard input.
+  peer replay [--settings FILE] [FILE]
+      Replays a log from FILE, or from standard input, on a board that is reset with the settings of
+      a record, or with document 01's.
 
-  peer screen PIN [FILE]
+  peer screen [--settings FILE] PIN [FILE]
       The same on a mill whose pause key is told to be PIN, a decimal number, with the words of its
       pause screen.
 
@@ -26,15 +28,26 @@ The second, independent model of the board.
       Copies the whole records of a damaged log from FILE, or from standard input if FILE is -, to the
       new file OUT, and lists what was skipped. A file that is there already isn't touched.
 
+  peer settings show [FILE]
+      Prints the settings record in FILE, or in standard input, or why it is refused.
+
+  peer settings make VENDOR PERIOD MASK0 MASK1 MASK2 ID OUT
+      Makes the new file OUT with a settings record, and prints it. The numbers are decimal, or
+      hexadecimal behind 0x. If one is out of its range, that is printed, and no file is made.
+
   peer fuzz --replay PATH [--seed N] [--logs N] [--profile NAME] [--long]
   peer fuzz --twin PATH [--seed N] [--logs N] [--profile NAME] [--long]
   peer fuzz --screen PATH [--seed N] [--logs N] [--profile NAME] [--long]
   peer fuzz --salvage PATH [--seed N] [--logs N] [--profile NAME] [--long]
+  peer fuzz --settings PATH [--seed N] [--logs N] [--profile NAME] [--long]
       Makes random logs, runs the program at PATH on each and compares its output with this
       program's, byte for byte; --twin has fewer logs, with short advances, since the program walks
       every tick; --screen gives it a pin before the log, and of --salvage the file that it makes is
-      compared too. The first difference is shrunk and shown. Profiles: valid, adversarial,
-      timers, controller, pause, torn, and of --salvage sound, cut, flipped, inserted, spliced, noise;
+      compared too. Two in five logs of the first three come with a settings record, as --settings
+      FILE. For --settings there are no logs: the program shows records and makes them. What is
+      written on standard error is a difference. The first difference is shrunk and shown. Profiles:
+      valid, adversarial, timers, controller, pause, torn; of --salvage sound, cut, flipped,
+      inserted, spliced, noise; of --settings records, broken, numbers;
       all in turn without --profile. A profile of which enough logs were made has to reach every event
       that it is meant to reach; of --twin the profiles may do it together. --long takes a fresh seed
       and many logs.
@@ -56,10 +69,11 @@ fn main() -> ExitCode {
             print!("{HELP}");
             Ok(true)
         }
-        ["replay"] => replay_command(None),
-        ["replay", file] => replay_command(Some(file)),
-        ["screen", pin] => screen_command(pin, None),
-        ["screen", pin, file] => screen_command(pin, Some(file)),
+        ["replay", words @ ..] => replay_command(words),
+        ["screen", words @ ..] => screen_command(words),
+        ["settings", "show"] => show_command(None),
+        ["settings", "show", file] => show_command(Some(file)),
+        ["settings", "make", words @ .., out] => make_command(words, out),
         ["salvage", file, out] => salvage_command(file, out),
         ["fuzz", options @ ..] => fuzz_command(options),
         ["mutants", options @ ..] => mutants_command(options),
@@ -75,13 +89,53 @@ fn main() -> ExitCode {
     }
 }
 
-fn replay_command(file: Option<&str>) -> Result<bool, String> {
-    print_all(&replay_from_reset(&log_from(file)?))
+fn replay_command(words: &[&str]) -> Result<bool, String> {
+    let (record, words) = settings_option(words)?;
+    let file = match words {
+        [] => None,
+        [file] => Some(*file),
+        _ => return Err("replay wants at most one log; see peer help".to_string()),
+    };
+    print_all(&replay_from(record.as_deref(), &log_from(file)?))
 }
 
-fn screen_command(pin: &str, file: Option<&str>) -> Result<bool, String> {
+fn screen_command(words: &[&str]) -> Result<bool, String> {
+    let (record, words) = settings_option(words)?;
+    let (pin, file) = match words {
+        [pin] => (pin, None),
+        [pin, file] => (pin, Some(*file)),
+        _ => return Err("screen wants a pin and at most one log; see peer help".to_string()),
+    };
     let pin = pin_of(pin).ok_or_else(|| format!("the pin is a decimal number, not {pin}"))?;
-    print_all(&screen_from_reset(pin, &log_from(file)?))
+    print_all(&screen_from(record.as_deref(), pin, &log_from(file)?))
+}
+
+/// The settings record that the first words name, if they do, and the other words.
+fn settings_option<'words>(
+    words: &'words [&'words str],
+) -> Result<(Option<Vec<u8>>, &'words [&'words str]), String> {
+    match words {
+        ["--settings", file, words @ ..] => Ok((Some(log_from(Some(file))?), words)),
+        ["--settings"] => Err("--settings wants a file".to_string()),
+        _ => Ok((None, words)),
+    }
+}
+
+fn show_command(file: Option<&str>) -> Result<bool, String> {
+    print_all(&settings_file::show(&log_from(file)?))
+}
+
+fn make_command(words: &[&str], out: &str) -> Result<bool, String> {
+    let usage = "settings make wants six numbers and the name of a new file; see peer help";
+    let numbers: &[&str; settings_file::NUMBERS] = words.try_into().map_err(|_| usage)?;
+    let output = settings_file::make(numbers).ok_or(usage)?;
+    if out.is_empty() || out.starts_with('-') {
+        return Err(usage.to_string());
+    }
+    if let Some(made) = output.made {
+        make(out, &made)?;
+    }
+    print_all(&output.text)
 }
 
 fn salvage_command(file: &str, out: &str) -> Result<bool, String> {
@@ -132,7 +186,9 @@ fn fuzz_command(words: &[&str]) -> Result<bool, String> {
     let mut words = words.iter();
     while let Some(&word) = words.next() {
         match word {
-            "--replay" | "--twin" | "--screen" | "--salvage" if program.is_none() => {
+            "--replay" | "--twin" | "--screen" | "--salvage" | "--settings"
+                if program.is_none() =>
+            {
                 program = Some((word, PathBuf::from(value_of(word, words.next())?)));
             }
             "--seed" => choices.seed = Some(number_of(word, words.next())?),
@@ -142,12 +198,14 @@ fn fuzz_command(words: &[&str]) -> Result<bool, String> {
             _ => return Err(unknown_option(word)),
         }
     }
-    let (which, program) = program
-        .ok_or("which program? Say --replay PATH, --twin PATH, --screen PATH or --salvage PATH")?;
+    let (which, program) = program.ok_or(
+        "which program? Say --replay PATH, --twin PATH, --screen PATH, --salvage PATH or --settings PATH",
+    )?;
     match which {
         "--replay" => choices.run::<fuzz::Replay>(program),
         "--twin" => choices.run::<fuzz::Twin>(program),
         "--screen" => choices.run::<fuzz::Screen>(program),
+        "--settings" => choices.run::<fuzz::SettingsFile>(program),
         _ => choices.run::<fuzz::Salvage>(program),
     }
 }

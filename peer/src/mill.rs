@@ -3,6 +3,7 @@
 use crate::board::{refuse_unless, Board, Calls, Refusal};
 use crate::controller::Delivery;
 use crate::pin::{Pin, PINS};
+use crate::settings::Settings;
 use crate::timers::TIMERS;
 
 /// How far a pause has come.
@@ -75,6 +76,13 @@ pub struct Mill {
 impl Mill {
     /// The mill after a reset: no pin, and so running.
     pub const RESET: Mill = Mill { board: Board::RESET, screen: None };
+
+    /// A board reset with settings: no pin afterwards. Refused, the screen stays too.
+    pub fn reset_with(&mut self, settings: &Settings) -> Result<(), Refusal> {
+        self.board.reset_with(settings)?;
+        self.screen = None;
+        Ok(())
+    }
 
     /// The pin of that number, if there is one.
     pub fn pin(&self, number: u64) -> Option<&Pin> {

@@ -1,7 +1,7 @@
 //! One timer: its numbers, its configuration and its firing.
 
 use crate::part::Part;
-use crate::pin::PINS;
+use crate::settings::is_mask;
 
 /// Bits of a timer's configuration.
 pub mod bits {
@@ -19,8 +19,10 @@ pub mod bits {
     pub const ROUTE_SHIFT: u32 = 9;
     /// The route's five bits, shifted down.
     pub const ROUTE_MASK: u64 = 0x1F;
-    /// What always reads 1: bits 4 and 5, and the routes that are allowed.
-    pub const FIXED: u64 = 0x00FF_FFFF_0000_0030;
+    /// What always reads 1: bits 4 and 5.
+    pub const FIXED: u64 = 0x30;
+    /// Lowest bit of the route mask, 63:32, which is read only.
+    pub const MASK_SHIFT: u32 = 32;
 }
 
 /// One timer.
@@ -30,7 +32,9 @@ pub struct Timer {
     pub comparator: u64,
     /// What a periodic firing adds to the comparator.
     pub period: u64,
-    /// The pin it is wired to.
+    /// The pins that it can be wired to, a bit for each; only a reset changes it.
+    pub mask: u32,
+    /// The pin it is wired to, one of them.
     pub route: u16,
     /// Level type; edge type otherwise.
     pub level_type: bool,
@@ -47,18 +51,26 @@ pub struct Timer {
 }
 
 impl Timer {
-    /// The timer after a reset.
-    pub const RESET: Timer = Timer {
-        comparator: u64::MAX,
-        period: 0,
-        route: 0,
-        level_type: false,
-        interrupt: false,
-        periodic: false,
-        set_comparator: false,
-        narrow: false,
-        status: false,
-    };
+    /// The timer after a reset that gives it this mask: its route is the mask's lowest pin.
+    pub const fn reset_to(mask: u32) -> Timer {
+        Timer {
+            comparator: u64::MAX,
+            period: 0,
+            mask,
+            route: mask.trailing_zeros() as u16,
+            level_type: false,
+            interrupt: false,
+            periodic: false,
+            set_comparator: false,
+            narrow: false,
+            status: false,
+        }
+    }
+
+    /// It can be wired to this pin.
+    pub fn allows(&self, route: u16) -> bool {
+        u64::from(self.mask).checked_shr(route.into()).is_some_and(|bits| bits & 1 != 0)
+    }
 
     /// The number of ticks after which the counter looks the same to this timer.
     fn turn(&self) -> u128 {
@@ -140,9 +152,10 @@ impl Timer {
             | flag(self.set_comparator, bits::SET_COMPARATOR)
             | flag(self.narrow, bits::NARROW)
             | u64::from(self.route) << bits::ROUTE_SHIFT
+            | u64::from(self.mask) << bits::MASK_SHIFT
     }
 
-    /// A configuration write.
+    /// A configuration write. A route outside the mask, as all above 23 are, keeps the old one.
     pub fn write_configuration(&mut self, value: u64) {
         let has = |bit: u64| value & bit != 0;
         self.level_type = has(bits::LEVEL_TYPE);
@@ -151,7 +164,7 @@ impl Timer {
         self.set_comparator = has(bits::SET_COMPARATOR) && self.periodic;
         self.narrow = has(bits::NARROW);
         let route = (value >> bits::ROUTE_SHIFT & bits::ROUTE_MASK) as u16;
-        if usize::from(route) < PINS {
+        if self.allows(route) {
             self.route = route;
         }
         self.status &= self.level_type;
@@ -182,7 +195,8 @@ impl Timer {
         (self.periodic || !self.set_comparator)
             && self.reduce(self.comparator) == self.comparator
             && self.reduce(self.period) == self.period
-            && usize::from(self.route) < PINS
+            && is_mask(self.mask)
+            && self.allows(self.route)
             && (self.level_type || !self.status)
     }
 }

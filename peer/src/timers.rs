@@ -1,6 +1,7 @@
 //! The timer block: three timers, the main counter, and their registers.
 
 use crate::part::{register_at, Part, PartWrite};
+use crate::settings::{is_period, Settings};
 use crate::timer::Timer;
 
 /// Number of timers.
@@ -27,14 +28,18 @@ pub const fn comparator_of(timer: usize) -> u64 {
     0x108 + 0x20 * timer as u64
 }
 
-/// What the capability register reads.
-const CAPABILITY_VALUE: u64 = 0x05F5_E100_8086_2201;
+/// What the capability register reads beside period and vendor: 64-bit counter, three timers, revision 1.
+const CAPABILITIES: u64 = 0x2201;
 
 /// The timer block.
 #[derive(Clone, Copy, PartialEq, Eq, Debug)]
 pub struct Timers {
     /// The main counter.
     pub counter: u64,
+    /// The tick period in femtoseconds, which the capability register shows and nothing else looks at.
+    pub tick_period: u32,
+    /// The vendor, which it shows too.
+    pub vendor: u16,
     /// The counter runs and level timers drive their wires.
     pub enabled: bool,
     /// The timers.
@@ -71,8 +76,17 @@ impl Register {
 }
 
 impl Timers {
-    /// The block after a reset.
-    pub const RESET: Timers = Timers { counter: 0, enabled: false, timer: [Timer::RESET; TIMERS] };
+    /// The block after a reset with settings.
+    pub const fn reset_to(settings: &Settings) -> Timers {
+        let [first, second, third] = settings.masks;
+        Timers {
+            counter: 0,
+            tick_period: settings.period,
+            vendor: settings.vendor,
+            enabled: false,
+            timer: [Timer::reset_to(first), Timer::reset_to(second), Timer::reset_to(third)],
+        }
+    }
 
     /// Whether the window has something at this offset.
     pub fn has_offset(offset: u64) -> bool {
@@ -98,7 +112,7 @@ impl Timers {
     /// The 8-byte value of the register at this offset.
     pub fn read_register(&self, register: u64) -> u64 {
         match Register::at(register) {
-            Register::Capability => CAPABILITY_VALUE,
+            Register::Capability => self.read_capability(),
             Register::Enable => u64::from(self.enabled),
             Register::Status => self.read_status(),
             Register::Counter => self.counter,
@@ -106,6 +120,10 @@ impl Timers {
             Register::Comparator(n) => self.timer[n].comparator,
             Register::Unlisted => 0,
         }
+    }
+
+    fn read_capability(&self) -> u64 {
+        u64::from(self.tick_period) << 32 | u64::from(self.vendor) << 16 | CAPABILITIES
     }
 
     fn read_status(&self) -> u64 {
@@ -150,6 +168,6 @@ impl Timers {
 
     /// The block's part of "well formed".
     pub fn is_well_formed(&self) -> bool {
-        self.timer.iter().all(Timer::is_well_formed)
+        is_period(self.tick_period) && self.timer.iter().all(Timer::is_well_formed)
     }
 }

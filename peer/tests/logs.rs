@@ -62,7 +62,7 @@ fn a_wrong_model_differs_by_its_mistake_alone() {
     for number in 0..30 {
         let log = log(Profile::ALL[number as usize % 4], 2, number);
         let right = replay_from_reset(&log);
-        assert_eq!(wrong::replay(&log, Mistake::LimitTooLow), right);
+        assert_eq!(wrong::replay(None, &log, Mistake::LimitTooLow), right);
     }
 }
 

@@ -33,7 +33,7 @@ fn the_screen_as_numbers() {
 
 #[test]
 fn the_screen_lies_behind_the_board_without_padding() {
-    assert_eq!(std::mem::offset_of!(Mill, screen), 288);
+    assert_eq!(std::mem::offset_of!(Mill, screen), 304);
     let offsets = [
         std::mem::offset_of!(Screen, told),
         std::mem::offset_of!(Screen, pin),
@@ -41,7 +41,7 @@ fn the_screen_lies_behind_the_board_without_padding() {
         std::mem::offset_of!(Screen, vector),
     ];
     assert_eq!(offsets, [0, 2, 4, 6]);
-    assert_eq!((size_of::<Mill>(), align_of::<Mill>()), (296, 8));
+    assert_eq!((size_of::<Mill>(), align_of::<Mill>()), (312, 8));
 }
 
 #[test]

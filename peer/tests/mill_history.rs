@@ -3,9 +3,8 @@
 //! delivered, then the delivered vector was ended. Both ways: the screen neither lies nor sleeps.
 #![allow(missing_docs)]
 
-use peer::abi::mill::{Asked, Mill};
+use peer::abi::mill::{Asked, Mill, Screen};
 use peer::abi::Call;
-use peer::mill;
 use peer::sequence::mill::{Kind, Maker, Step};
 
 /// What a done call shows of a pin.
@@ -79,8 +78,8 @@ fn the_word_is_what_the_calls_say() {
     let mut seen = [0; 4];
     for sequence in (0..120).flat_map(|_| maker.round()) {
         // From reset: the lives, and what comes behind a reset elsewhere.
-        let mut from_reset = sequence.start == Mill::from(&mill::Mill::RESET);
-        assert!(from_reset || sequence.kind != Kind::Life);
+        let mut from_reset = sequence.kind == Kind::Life;
+        assert!(!from_reset || sequence.start.screen == Screen::UNTOLD);
         let mut since = None;
         for step in sequence.steps() {
             since = go_on(since, &step);

@@ -25,7 +25,8 @@ fn what_shows_in_calls_alone_prints_the_right_text() {
         let case = Screen::case(Profile::ALL[number as usize % 6], 2, number);
         let (pin, right) = (case.pin.as_deref().unwrap(), Screen::output(&case));
         for &mistake in ScreenMistake::ALL.iter().filter(|mistake| !mistake.shows_in_logs()) {
-            assert_eq!(output(pin, &case.log, mistake), right, "{mistake:?}");
+            let wrong = output(case.settings.as_deref(), pin, &case.log, mistake);
+            assert_eq!(wrong, right, "{mistake:?}");
         }
     }
 }

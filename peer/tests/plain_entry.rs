@@ -7,7 +7,8 @@ use peer::board;
 use peer::fuzz::FIXED_SEED;
 use peer::generate::MOST_TICKS;
 use peer::sequence::plain::{Maker, Step};
-use peer::sequence::stray_irr;
+use peer::sequence::{broken, stray_irr, SETTINGS_CLAUSES};
+use peer::settings::{is_mask, ALL_PINS};
 
 fn reset_board() -> Board {
     Board::from(&board::Board::RESET)
@@ -102,7 +103,16 @@ fn is_ill(call: PlainCall, board: &Board) -> bool {
     !call.is_reset() && !board.is_well_formed()
 }
 
-const WRONG: [(&str, Wrong); 13] = [
+/// An entry that doesn't test this clause of K6.
+fn without(clause: usize, call: PlainCall, board: &mut Board) -> Reply {
+    if !call.is_reset() && broken(board) == [SETTINGS_CLAUSES[clause]] {
+        number(0)
+    } else {
+        call.answer(board)
+    }
+}
+
+const WRONG: [(&str, Wrong); 21] = [
     ("an unknown kind is done", |call, board| match call.answer(board) {
         Reply { number: 7, .. } => number(0),
         reply => reply,
@@ -143,6 +153,39 @@ const WRONG: [(&str, Wrong); 13] = [
         } else {
             number(0)
         }
+    }),
+    ("a reset keeps the masks", |call, board| {
+        let masks = board.timers.masks;
+        let reply = call.answer(board);
+        if call.is_reset() && masks.iter().all(|&mask| is_mask(mask)) {
+            board.timers.masks = masks;
+        }
+        reply
+    }),
+    ("a reset keeps the vendor", |call, board| {
+        let vendor = board.timers.vendor;
+        let reply = call.answer(board);
+        if call.is_reset() {
+            board.timers.vendor = vendor;
+        }
+        reply
+    }),
+    ("a tick period out of range isn't refused", |call, board| without(0, call, board)),
+    ("a vendor of more than 16 bits isn't refused", |call, board| without(1, call, board)),
+    ("a mask of 0 isn't refused", |call, board| without(2, call, board)),
+    ("a mask above 2^24 isn't refused", |call, board| without(3, call, board)),
+    ("a route outside its mask isn't refused", |call, board| without(4, call, board)),
+    ("every board has all pins in its masks", |call, board| {
+        let masks = board.timers.masks;
+        let is_whole = board.is_well_formed() && !call.is_reset();
+        if is_whole {
+            board.timers.masks = [ALL_PINS; 3];
+        }
+        let reply = call.answer(board);
+        if is_whole {
+            board.timers.masks = masks;
+        }
+        reply
     }),
     ("an end above 255 frees nothing", |call, board| match call.kind {
         kind::END if call.numbers[0] > 0xFF && !is_ill(call, board) => number(0),

@@ -4,9 +4,9 @@
 
 use peer::board::{Board, Calls, Refusal};
 use peer::controller::Delivery;
-use peer::fuzz::{Subject, Twin, FIXED_SEED};
+use peer::fuzz::{Case, Subject, Twin, FIXED_SEED};
 use peer::generate::{short_log, ticks_of, Profile, Sort, MOST_TICKS};
-use peer::log::{records_of, replay, replay_from_reset, Record};
+use peer::log::{chosen_settings, records_of, replay, Record};
 use peer::wrong::{self, Mistake};
 
 /// A board whose advances are walked, tick by tick.
@@ -55,7 +55,8 @@ impl Calls for Walker {
 fn a_walk_prints_what_a_replay_prints() {
     for number in 0..120 {
         let case = Twin::case(Profile::in_turn(number), FIXED_SEED, number);
-        let mut walker = Walker { board: Board::RESET, ticks: 0 };
+        let Ok(settings) = chosen_settings(case.settings.as_deref()) else { continue };
+        let mut walker = Walker { board: Board::reset_to(&settings), ticks: 0 };
         assert_eq!(replay(&case.log, &mut walker), Twin::output(&case), "log {number}");
         assert_eq!(walker.ticks, Twin::walked(&case));
     }
@@ -104,11 +105,15 @@ fn the_seed_and_the_number_decide_a_short_log() {
 
 #[test]
 fn short_logs_find_every_mistake_but_one_of_long_advances() {
-    let logs: Vec<(Vec<u8>, String)> = (0..Twin::GATE_LOGS / 3)
-        .map(|number| Twin::case(Profile::in_turn(number), FIXED_SEED, number).log)
-        .map(|log| (log.clone(), replay_from_reset(&log)))
+    let cases: Vec<(Case, String)> = (0..Twin::GATE_LOGS / 2)
+        .map(|number| Twin::case(Profile::in_turn(number), FIXED_SEED, number))
+        .map(|case| (case.clone(), Twin::output(&case)))
         .collect();
-    let is_found = |mistake| logs.iter().any(|(log, right)| wrong::replay(log, mistake) != *right);
+    let is_found = |mistake| {
+        cases.iter().any(|(case, right)| {
+            wrong::replay(case.settings.as_deref(), &case.log, mistake) != *right
+        })
+    };
     for &mistake in Mistake::ALL.iter().filter(|mistake| mistake.shows_in_logs()) {
         let is_long = mistake == Mistake::ShortAdvance;
         assert!(is_long || is_found(mistake), "{mistake:?}");

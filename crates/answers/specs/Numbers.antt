@@ -19,6 +19,9 @@ numberOf refusal.State = 5
 numberOf refusal.Mark = 6
 numberOf refusal.Kind = 7
 numberOf refusal.Short = 8
+numberOf refusal.Length = 8
+numberOf refusal.Form = 9
+numberOf refusal.Range = 10
 numberOf refusal.NoRoom = 12
 numberOf refusal.NotEdge = 14
 

@@ -18,12 +18,18 @@ pub enum Refusal {
     Value,
     // 5: state not well formed
     State,
-    // 6: log: wrong mark
+    // 6: wrong mark, of a log's record or of a settings record
     Mark,
     // 7: log: unknown kind
     Kind,
     // 8: log: record cut short
     Short,
+    // 8: settings: a record or a lent buffer of another length
+    Length,
+    // 9: settings: unknown form
+    Form,
+    // 10: a number out of range
+    Range,
     // 12: a lent buffer is too small
     NoRoom,
     // 14: the pause pin's entry isn't an edge entry
@@ -76,6 +82,9 @@ impl Refusal {
             Refusal::Mark => 6,
             Refusal::Kind => 7,
             Refusal::Short => 8,
+            Refusal::Length => 8,
+            Refusal::Form => 9,
+            Refusal::Range => 10,
             Refusal::NoRoom => 12,
             Refusal::NotEdge => 14,
         }

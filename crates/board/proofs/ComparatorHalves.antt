@@ -15,7 +15,7 @@ use Rattle.timer.specs.Halves.{replaced}
 use Rattle.timer.specs.Registers.{halfComparedOf}
 use Rattle.timer.proofs.ReadBack.{Reads, configuration-reads, reduced-is, comparator-is, period-is}
 use Rattle.timers.specs.declared.Timers.{Timers}
-use Rattle.timers.specs.State.{at, withTimer}
+use Rattle.timers.specs.State.{at, maskAt, withTimer}
 use Rattle.timers.specs.Formed.{Formed as TimersFormed}
 use Rattle.timers.specs.Registers.{registerOf, writtenOf, halfWritten}
 use Rattle.timers.proofs.Formed.{formed-in}
@@ -49,7 +49,7 @@ module _ (b : Board) (z : Formed b) (n k : ℕ) (l : n < 3) (e : register b (con
 
   -- its bits are the timer's
   pub bits : Reads k t
-  bits = subst (λ (x : ℕ). Reads x t) (sym (configuration-read n l block) ∙ was) (configuration-reads t (f .each n l))
+  bits = subst (λ (x : ℕ). Reads x t) (sym (configuration-read n l block) ∙ was) (configuration-reads (maskAt block n) t (f .each n l))
 
   -- a one-shot timer's bit 6 is 0
   pub one-shot-unset : k / 2 ^ 3 % 2 ≡ 0 → k / 2 ^ 6 % 2 ≡ 0
@@ -86,13 +86,13 @@ module _ (b : Board) (z : Formed b) (n k : ℕ) (l : n < 3) (e : register b (con
         ≡ cond (eqb (k / 2 ^ 3 % 2) 1) (cond (eqb (k / 2 ^ 6 % 2) 1) (taken (replaced h (t .comparator) v)) (t .comparator)) (taken (replaced h (t .comparator) v))
     half-comparator =
         ap (λ (x : Timer). x .comparator) half-compared
-        ∙ comparator-is t (f .each n l) _ _
+        ∙ comparator-is (maskAt block n) t (f .each n l) _ _
         ∙ (λ i. cond (eqb (sym (bits .periodic) i) 1) (cond (eqb (sym (bits .set) i) 1) (reduces (replaced h (t .comparator) v) i) (t .comparator)) (reduces (replaced h (t .comparator) v) i))
 
     pub half-period : at (next .timers) n .period ≡ cond (eqb (k / 2 ^ 3 % 2) 1) (taken (replaced h (t .period) v)) (t .period)
     half-period =
         ap (λ (x : Timer). x .period) half-compared
-        ∙ period-is t (f .each n l) _ _
+        ∙ period-is (maskAt block n) t (f .each n l) _ _
         ∙ (λ i. cond (eqb (sym (bits .periodic) i) 1) (reduces (replaced h (t .period) v) i) (t .period))
 
     -- "Bit 6 clears at the first half", whichever that is; the other bits of the configuration stay

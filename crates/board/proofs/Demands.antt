@@ -32,15 +32,16 @@ use Rattle.timers.specs.Call.{readingOf as timersReading, writingOf as timersWr
 use Rattle.timers.proofs.Decided.{reading-decided as timers-reading-decided, writing-decided as timers-writing-decided}
 use Rattle.timers.proofs.Portions.{total}
 use Rattle.timers.proofs.Runs.{SameBut, ticks-alike, firings-alike}
+use Rattle.settings.specs.Settings.{inRange}
 use Rattle.board.specs.declared.Board.{Board}
 use Rattle.board.specs.declared.Call.{Call}
 use Rattle.board.specs.declared.Call.the-variants as call
 use Rattle.board.specs.declared.Turn.{Turn}
-use Rattle.board.specs.State.{board, resetBoard, withController, turn, refused}
+use Rattle.board.specs.State.{board, resetTo, withController, turn, refused}
 use Rattle.board.specs.Wires.{joined}
 use Rattle.board.specs.Formed.{wellFormed}
 use Rattle.board.specs.Tick.{ticks, firings}
-use Rattle.board.specs.Step.{byController, byTimers, inWindow, readingOf, writingOf, wiringOf, endingOf, advancingOf, deliveringOnBoard, servedOf, turnOf}
+use Rattle.board.specs.Step.{byController, byTimers, inWindow, readingOf, writingOf, wiringOf, endingOf, advancingOf, deliveringOnBoard, resettingOf, servedOf, turnOf}
 use Rattle.board.specs.Runs.{run, testsOf}
 use Rattle.board.proofs.Formed.{Sized, Formed, formed-in, formed-out}
 use Rattle.board.proofs.Ticks.{ticks-add, firings-add, ticks-formed, ticks-timers, ticks-firings}
@@ -102,7 +103,7 @@ module _ (b : Board) (s : Sized b) where
       go false e = refuses b 5 ts refusal.State refl
 
   pub decided : (c : Call) → Decided Board (testsOf b c) b (turnOf b c .board) (turnOf b c .answer)
-  unfolding turnOf servedOf testsOf readingOf writingOf wiringOf endingOf advancingOf deliveringOnBoard numberOf numbersOf
+  unfolding turnOf servedOf testsOf readingOf writingOf wiringOf endingOf advancingOf deliveringOnBoard resettingOf numberOf numbersOf
   decided (call.Read n w o) =
       first-test _ _
       (λ z. in-window b n _ _ _ _
@@ -120,7 +121,7 @@ module _ (b : Board) (s : Sized b) where
   decided (call.End v) = first-test [] _ (λ z. done-decided b (withController b (afterEnd (b .controller) v)) answer.Done refl)
   decided (call.Advance n) = first-test [] _ (λ z. done-decided b (ticks n b) (answer.Fired (firings 0 n b) (firings 1 n b) (firings 2 n b)) refl)
   decided call.Deliver = first-test [] (byController b (deliveringOf (b .controller))) (λ z. of-controller b [] (deliveringOf (b .controller)) (delivering-decided (b .controller)))
-  decided call.Reset = done-decided b resetBoard answer.Done refl
+  decided (call.Reset z) = then b 10 [] refusal.Range (turn (resetTo z) answer.Done) (inRange z) refl (done-decided b (resetTo z) answer.Done refl)
 
   module _ (c : Call) where
     -- "Given exactly when": a number is answered if and only if its test holds and none before it does

@@ -50,4 +50,4 @@ event-vector b (call.Wire pin level) p v w e = reset-other false p v e
 event-vector b (call.End vector) p v w e = end-other (isDone (turnOf b (call.End vector) .answer)) vector p v e
 event-vector b (call.Advance n) p v w e = reset-other false p v e
 event-vector b call.Deliver p v w e = delivered-vector b p v w e
-event-vector b call.Reset p v w e = reset-other (isDone (turnOf b call.Reset .answer)) p v e
+event-vector b (call.Reset z) p v w e = reset-other (isDone (turnOf b (call.Reset z) .answer)) p v e

@@ -151,7 +151,7 @@ advances? (call.Wire i x) = inr (elim [ ])
 advances? (call.End v) = inr (elim [ ])
 advances? (call.Advance n) = inl (advances n)
 advances? call.Deliver = inr (elim [ ])
-advances? call.Reset = inr (elim [ ])
+advances? (call.Reset z) = inr (elim [ ])
 
 module _ (b : Board) (z : Formed b) (p : ℕ) (l : p < 24) where
   after-ticks : (n : ℕ) → turnOf b (call.Advance n) .board ≡ ticks n b

@@ -24,6 +24,7 @@ use Rattle.board.specs.Runs.{run}
 use Rattle.board.proofs.Formed.{Formed, formed-out}
 use Rattle.board.proofs.Keeps.{served}
 use Rattle.board.proofs.Wired.{turned-keeps, tick-keeps}
+use Rattle.board.proofs.Served.{reset-done}
 use Rattle.board.proofs.Lasts.{Breaks, delivered, rewritten, reset, NoneBreaks, kept, along}
 
 -- pin p's edge is held
@@ -41,7 +42,7 @@ module _ (p : ℕ) (l : p < 24) where
 
 -- ---- "If it leaves the pin level, a held edge is dropped; otherwise the held edge stays, masked or not"; "An edge pin loses its held edge"
 
--- what loses pin p's held edge: its delivery, a low-word write that leaves the pin level (a refused write loses nothing), or a reset
+-- what loses pin p's held edge: its delivery, a low-word write that leaves the pin level (a refused call loses nothing), or a reset that is done
 abbrev pub Loses : Board → ℕ → Call → Type 0
 Loses = Breaks Unit Level Unit
 
@@ -71,7 +72,7 @@ module _ (p : ℕ) (l : p < 24) where
         ap (λ (t : Turn). heldAt (t .board .controller .entries) p) (served b (call.Write 0 4 0x10 v) (formed-out b z))
         ∙ ap (λ (t : ControllerTurn). heldAt (t .controller .entries) p) (sym (write-served c (z .controlled) 4 0x10 v))
         ∙ controller-held-lost c (z .sized) p l h (z .controlled) (writeCall 4 0x10 v) (controller-rewritten 4 0x10 v refl refl i u t)
-    held-lost _ (reset _) = ap (λ (t : Turn). heldAt (t .board .controller .entries) p) (served b call.Reset (formed-out b z)) ∙ getD-replicate 24 p 0 0 l
+    held-lost _ (reset a e _) = ap (λ (t : Turn). heldAt (t .board .controller .entries) p) (reset-done b a e) ∙ getD-replicate 24 p 0 0 l
 
   -- any sequence of calls of which none loses it keeps it too
   pub held-along : (ks : List Call) (b : Board) → Formed b → Held p b → NoneLoses b p ks → heldAt (run b ks .controller .entries) p ≡ 1

@@ -1,42 +1,73 @@
 -- Every call turns a well-formed board into one.
 use Prim.Native.Nat.{ℕ}
 use mathlib.Core.Path.{_≡_, refl, sym, subst, _∙_}
-use mathlib.Core.Bool.{Bool, true, false, cond}
+use mathlib.Core.Bool.{Bool, true, false, cond, _||_}
 use lib.Dec.{leb, ltb, eqb}
-use lib.ListN.{set}
+use lib.ListN.{set, getD, replicate, getD-replicate}
+use lib.Seq.{ext-getD}
+use mir.Val.{boolByte}
 use Rattle.answers.specs.declared.Answer.the-variants as answer
 use Rattle.answers.specs.declared.Refusal.the-variants as refusal
+use Rattle.entries.specs.Table.{resetEntries}
+use Rattle.entries.proofs.Formed.{reset-ok, own-levels-ok}
 use Rattle.entries.proofs.Pulse.{set-ok}
 use Rattle.entries.proofs.Delivery.{ended-level}
 use Rattle.controller.specs.declared.Controller.{Controller}
 use Rattle.controller.specs.declared.Turn.{Turn as ControllerTurn}
 use Rattle.controller.specs.Window.{readingOf as controllerReading, writingOf as controllerWriting}
 use Rattle.controller.specs.Steps.{deliveringOf}
+use Rattle.controller.proofs.Formed.{reset-formed as controller-reset}
 use Rattle.controller.proofs.Formed.{Keeps, reading-same, writing-keeps, writing-levels, ended-keeps, delivering-keeps, delivering-levels}
 use Rattle.timers.specs.Call.{readingOf as timersReading, writingOf as timersWriting}
-use Rattle.timers.proofs.Formed.{writing-formed}
+use Rattle.settings.specs.declared.Settings.{Settings}
+use Rattle.settings.specs.Settings.{standard, inRange}
+use Rattle.settings.proofs.Ranges.{standard-in-range, id-of, id-in}
+use Rattle.timers.specs.State.{resetTo as timersReset}
+use Rattle.timers.proofs.Formed.{writing-formed, reset-formed as timers-reset}
+use Rattle.timers.proofs.Wires.{reset-drives}
 use Rattle.board.specs.declared.Board.{Board}
 use Rattle.board.specs.declared.Call.{Call}
 use Rattle.board.specs.declared.Call.the-variants as call
 use Rattle.board.specs.declared.Turn.{Turn}
-use Rattle.board.specs.State.{board, resetBoard, withController, turn, refused}
-use Rattle.board.specs.Wires.{joined}
+use Rattle.board.specs.State.{board, resetTo, resetBoard, withController, turn, refused}
+use Rattle.board.specs.Wires.{highAt, wiresOf, joined}
 use Rattle.board.specs.Formed.{wellFormed}
-use Rattle.board.specs.Sheet.{reset-formed as computed}
-use Rattle.board.specs.Step.{byController, byTimers, readingOf, writingOf, wiringOf, endingOf, advancingOf, deliveringOnBoard, servedOf, turnOf}
+use Rattle.board.specs.Step.{byController, byTimers, readingOf, writingOf, wiringOf, endingOf, advancingOf, deliveringOnBoard, resettingOf, servedOf, turnOf}
 use Rattle.board.proofs.Formed.{Sized, Formed, formed-in, formed-out, joined-formed}
+use Rattle.board.proofs.Rule.{wires-long, wires-at}
 use Rattle.board.proofs.Ticks.{ticks-formed}
 use Rattle.board.proofs.Served.{formed-taken, turn-served}
 
--- reset
-pub reset-sized : Sized resetBoard
-reset-sized = record { low = refl; destination = refl; level = refl; held = refl }
+-- ---- reset, with settings in range
 
-pub reset-formed : wellFormed resetBoard ≡ true
-reset-formed = computed
+-- every wire is low
+low-wires : (z : Settings) → replicate 24 0 ≡ wiresOf (replicate 24 0) (timersReset z)
+unfolding highAt
+low-wires z =
+    ext-getD 0 (replicate 24 0) (wiresOf (replicate 24 0) (timersReset z)) (sym (wires-long (replicate 24 0) (timersReset z)))
+    (λ i l.
+    let low : getD {A = ℕ} (replicate 24 0) i 0 ≡ 0 = getD-replicate 24 i 0 0 l in
+    low ∙ sym (wires-at (replicate 24 0) (timersReset z) i l ∙ (λ j. boolByte (eqb (low j) 1 || reset-drives z i j))))
 
-pub reset : Formed resetBoard
-reset = formed-in resetBoard reset-formed reset-sized
+pub reset-sized : (z : Settings) → Sized (resetTo z)
+reset-sized z = record { low = refl; destination = refl; level = refl; held = refl }
+
+module _ (z : Settings) (e : inRange z ≡ true) where
+  pub reset : Formed (resetTo z)
+  reset =
+      record {
+        controlled = controller-reset (z .id) (id-in (z .id) (id-of z e));
+        timed = timers-reset z e;
+        outer = own-levels-ok resetEntries reset-ok;
+        wired = low-wires z;
+        sized = reset-sized z;
+      }
+
+  pub reset-formed : wellFormed (resetTo z) ≡ true
+  reset-formed = formed-out (resetTo z) reset
+
+pub plain-formed : wellFormed resetBoard ≡ true
+plain-formed = reset-formed standard standard-in-range
 
 module _ (b : Board) (z : Formed b) where
   -- a controller that a call left well formed, with the levels that it had
@@ -75,6 +106,14 @@ module _ (b : Board) (z : Formed b) where
       go true false e = z
       go false y e = z
 
+  resetting-keeps : (s : Settings) → Formed (resettingOf b s .board)
+  unfolding resettingOf
+  resetting-keeps s = go (inRange s) refl
+    where
+      go : (x : Bool) → inRange s ≡ x → Formed (cond x (turn (resetTo s) answer.Done) (refused b refusal.Range) .board)
+      go true e = reset s e
+      go false e = z
+
   served-keeps : (c : Call) → Formed (servedOf b c .board)
   unfolding servedOf endingOf advancingOf deliveringOnBoard
   served-keeps (call.Read n w o) = reading-keeps n w o
@@ -85,7 +124,7 @@ module _ (b : Board) (z : Formed b) where
       record { controlled = k .formed; timed = z .timed; outer = z .outer; wired = ended-level (b .controller .entries) v ∙ z .wired; sized = k .sized }
   served-keeps (call.Advance n) = ticks-formed b z n
   served-keeps call.Deliver = with-controller (deliveringOf (b .controller)) (delivering-keeps (b .controller) (z .controlled) (z .sized)) (delivering-levels (b .controller))
-  served-keeps call.Reset = reset
+  served-keeps (call.Reset s) = resetting-keeps s
 
 pub served : (b : Board) (c : Call) → wellFormed b ≡ true → turnOf b c ≡ servedOf b c
 served b c e = turn-served b c (formed-taken b c e)

@@ -5,7 +5,10 @@ use mathlib.Core.Bool.{Bool, true, false, cond}
 use mathlib.Core.List.{List, [], _∷_}
 use lib.Dec.{eqb}
 use borrow.Author.Tests.{eqb-true}
+use Rattle.answers.specs.declared.Answer.the-variants as answer
 use Rattle.answers.specs.declared.Refusal.the-variants as refusal
+use Rattle.settings.specs.declared.Settings.{Settings}
+use Rattle.settings.specs.Settings.{inRange}
 use Rattle.entries.specs.declared.Entries.{Entries}
 use Rattle.entries.specs.Table.{resetEntries, given}
 use Rattle.controller.specs.declared.Controller.{Controller}
@@ -20,19 +23,19 @@ use Rattle.board.specs.declared.Board.{Board}
 use Rattle.board.specs.declared.Call.{Call}
 use Rattle.board.specs.declared.Call.the-variants as call
 use Rattle.board.specs.declared.Turn.{Turn}
-use Rattle.board.specs.State.{turn, refused}
-use Rattle.board.specs.Step.{byController, byTimers, readingOf, writingOf, endingOf, advancingOf, deliveringOnBoard, servedOf, turnOf}
+use Rattle.board.specs.State.{turn, refused, resetTo}
+use Rattle.board.specs.Step.{byController, byTimers, readingOf, writingOf, endingOf, advancingOf, deliveringOnBoard, resettingOf, servedOf, turnOf}
 use Rattle.board.specs.Runs.{run}
 use Rattle.board.proofs.Formed.{Formed, formed-out}
 use Rattle.board.proofs.Keeps.{served, keeps}
 use Rattle.board.proofs.Wired.{joined-keeps, ticks-keep, wiring-keeps}
 
 -- what may break it: the pin's delivery where D says so, a low-word write of a value v to its entry where W v does (a refused call
--- breaks nothing), a reset where R does
+-- breaks nothing), a reset that is done where R does
 pub data Breaks (D : Type 0) (W : ℕ → Type 0) (R : Type 0) (b : Board) (p : ℕ) : Call → Type 0 where
   delivered : D → turnOf b call.Deliver .answer ≡ given (b .controller .entries) p → Breaks D W R b p call.Deliver
   rewritten : (v : ℕ) → b .controller .index ≡ 0x10 + 2 * p → v < 2 ^ 32 → W v → Breaks D W R b p (call.Write 0 4 0x10 v)
-  reset : R → Breaks D W R b p call.Reset
+  reset : (z : Settings) → inRange z ≡ true → R → Breaks D W R b p (call.Reset z)
 
 -- none of the calls does
 unfoldable pub NoneBreaks : Type 0 → (ℕ → Type 0) → Type 0 → Board → ℕ → List Call → Type 0
@@ -81,6 +84,14 @@ module _ {D : Type 0} {W : ℕ → Type 0} {R : Type 0} {p : ℕ} {P : Entries �
         go false e true = joined-keeps P (s .wires) c (timersWriting (b .timers) w o v .timers) (b .outside) h
         go false e false = h
 
+    resetting-keeps : (a : Settings) → (Breaks D W R b p (call.Reset a) → ⊥) → On (resettingOf b a .board)
+    unfolding resettingOf
+    resetting-keeps a f = go (inRange a) refl
+      where
+        go : (x : Bool) → inRange a ≡ x → On (cond x (turn (resetTo a) answer.Done) (refused b refusal.Range) .board)
+        go true e = anew (λ r. f (reset a e r))
+        go false e = h
+
     served-keeps : (k : Call) → (Breaks D W R b p k → ⊥) → On (servedOf b k .board)
     unfolding servedOf endingOf advancingOf deliveringOnBoard
     served-keeps (call.Read n w o) f = reading-keeps n w o
@@ -91,7 +102,7 @@ module _ {D : Type 0} {W : ℕ → Type 0} {R : Type 0} {p : ℕ} {P : Entries �
     served-keeps call.Deliver f =
         subst (λ (t : ControllerTurn). P (t .controller .entries)) (deliver-is c ∙ deliver-served c (z .controlled))
         (controller-kept s l c (z .sized) h deliverCall (λ k. f (deliver-breaks k)))
-    served-keeps call.Reset f = anew (λ r. f (reset r))
+    served-keeps (call.Reset a) f = resetting-keeps a f
 
     -- every call keeps it, unless it is one that may break it
     pub kept : (k : Call) → (Breaks D W R b p k → ⊥) → On (turnOf b k .board)

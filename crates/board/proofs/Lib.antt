@@ -27,3 +27,4 @@ pub mod ComparatorHalves
 pub mod InHalves
 pub mod Words
 pub mod Remote
+pub mod Settings

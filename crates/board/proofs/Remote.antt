@@ -20,6 +20,8 @@ use Rattle.controller.proofs.Remote.{edge-shows-0, word-put, EdgeOn, edge-lasts
 use Rattle.board.specs.declared.Board.{Board}
 use Rattle.board.specs.declared.Call.{Call}
 use Rattle.board.specs.declared.Turn.{Turn}
+use Rattle.settings.specs.Settings.{standard}
+use Rattle.settings.proofs.Ranges.{standard-in-range}
 use Rattle.board.specs.State.{resetBoard}
 use Rattle.board.specs.Step.{turnOf}
 use Rattle.board.specs.Runs.{run}
@@ -40,7 +42,7 @@ edge-reads-0 b z n r l e =
 -- … after any calls from reset
 pub always-reads-0 :
     (cs : List Call) (n r : ℕ) → n < 24 → reads (run resetBoard cs) (lowWord n) ≡ value r → r / 2 ^ 15 % 2 ≡ 0 → r / 2 ^ 14 % 2 ≡ 0
-always-reads-0 cs = edge-reads-0 (run resetBoard cs) (every-run-keeps cs resetBoard reset)
+always-reads-0 cs = edge-reads-0 (run resetBoard cs) (every-run-keeps cs resetBoard (reset standard standard-in-range))
 
 -- ---- "Older system software clears a stuck bit by writing the entry as edge and then back as level"
 

@@ -7,9 +7,12 @@ use Rattle.answers.specs.declared.Refusal.the-variants as refusal
 use Rattle.board.specs.declared.Board.{Board}
 use Rattle.board.specs.declared.Call.{Call}
 use Rattle.board.specs.declared.Call.the-variants as call
-use Rattle.board.specs.State.{resetBoard, turn, refused}
+use Rattle.settings.specs.declared.Settings.{Settings}
+use Rattle.settings.specs.Settings.{standard, inRange}
+use Rattle.settings.proofs.Ranges.{standard-in-range}
+use Rattle.board.specs.State.{resetTo, resetBoard, turn, refused}
 use Rattle.board.specs.Formed.{wellFormed}
-use Rattle.board.specs.Step.{readingOf, writingOf, wiringOf, endingOf, advancingOf, deliveringOnBoard, servedOf, takes, turnOf}
+use Rattle.board.specs.Step.{readingOf, writingOf, wiringOf, endingOf, advancingOf, deliveringOnBoard, resettingOf, servedOf, takes, plainReset, turnOf}
 
 module _ (b : Board) where
   -- every call takes a well-formed board
@@ -20,7 +23,7 @@ module _ (b : Board) where
   formed-taken (call.End vector) e = e
   formed-taken (call.Advance n) e = e
   formed-taken call.Deliver e = e
-  formed-taken call.Reset e = refl
+  formed-taken (call.Reset z) e = refl
 
   pub turn-served : (c : Call) → takes b c ≡ true → turnOf b c ≡ servedOf b c
   unfolding turnOf
@@ -61,7 +64,20 @@ module _ (b : Board) where
   unfolding endingOf
   ending-done vector = refl
 
-  -- whatever the board was
-  pub turn-reset : turnOf b call.Reset ≡ turn resetBoard answer.Done
+  -- a reset, whatever the board was
+  pub turn-reset : (z : Settings) → turnOf b (call.Reset z) ≡ resettingOf b z
   unfolding turnOf servedOf
-  turn-reset = refl
+  turn-reset z = refl
+
+  -- with settings in range it is done, with others it is 10, and hands the board back
+  pub reset-done : (z : Settings) → inRange z ≡ true → turnOf b (call.Reset z) ≡ turn (resetTo z) answer.Done
+  unfolding turnOf servedOf resettingOf
+  reset-done z e = rw e
+
+  pub reset-refused : (z : Settings) → inRange z ≡ false → turnOf b (call.Reset z) ≡ refused b refusal.Range
+  unfolding turnOf servedOf resettingOf
+  reset-refused z e = rw e
+
+  -- without settings it is as in document 01
+  pub reset-plain : turnOf b plainReset ≡ turn resetBoard answer.Done
+  reset-plain = reset-done standard standard-in-range

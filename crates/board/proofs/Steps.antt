@@ -23,10 +23,12 @@ use Rattle.board.specs.declared.Board.{Board}
 use Rattle.board.specs.declared.Call.{Call}
 use Rattle.board.specs.declared.Call.the-variants as call
 use Rattle.board.specs.declared.Turn.{Turn}
-use Rattle.board.specs.State.{turn, refused}
+use Rattle.settings.specs.declared.Settings.{Settings}
+use Rattle.settings.specs.Settings.{inRange}
+use Rattle.board.specs.State.{turn, refused, resetTo}
 use Rattle.board.specs.Wires.{wiresOf, joined}
 use Rattle.board.specs.Tick.{upTo, firesIn, ticks}
-use Rattle.board.specs.Step.{byController, byTimers, readingOf, writingOf, wiringOf, endingOf, deliveringOnBoard, servedOf, turnOf}
+use Rattle.board.specs.Step.{byController, byTimers, readingOf, writingOf, wiringOf, endingOf, deliveringOnBoard, resettingOf, servedOf, turnOf}
 use Rattle.board.proofs.Formed.{Formed, formed-out}
 use Rattle.board.proofs.Keeps.{served}
 
@@ -111,6 +113,14 @@ module _ (b : Board) (z : Formed b) (p : ℕ) (l : p < 24) where
       go true false = same
       go false d = same
 
+  resetting-exact : (s : Settings) → Exact p e (entriesOf (resettingOf b s .board))
+  unfolding resettingOf
+  resetting-exact s = go (inRange s)
+    where
+      go : (x : Bool) → Exact p e (entriesOf (cond x (turn (resetTo s) answer.Done) (refused b refusal.Range) .board))
+      go true = reset-exact e p l
+      go false = same
+
   served-exact : (k : Call) → (Advances k → ⊥) → (LowWrite b k → ⊥) → Exact p e (entriesOf (servedOf b k .board))
   unfolding servedOf endingOf deliveringOnBoard
   served-exact (call.Read n w o) a f = reading-exact n w o
@@ -119,7 +129,7 @@ module _ (b : Board) (z : Formed b) (p : ℕ) (l : p < 24) where
   served-exact (call.End v) a f = ended-exact e p v l
   served-exact (call.Advance n) a f = absurd (a (advances n))
   served-exact call.Deliver a f = delivering-exact c (z .sized) p l
-  served-exact call.Reset a f = reset-exact e p l
+  served-exact (call.Reset s) a f = resetting-exact s
 
   pub call-exact : (k : Call) → (Advances k → ⊥) → (LowWrite b k → ⊥) → Exact p e (entriesOf (turnOf b k .board))
   call-exact k a f = subst (λ (t : Turn). Exact p e (entriesOf (t .board))) (sym (served b k (formed-out b z))) (served-exact k a f)

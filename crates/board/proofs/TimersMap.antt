@@ -4,15 +4,18 @@ use mathlib.Core.Bool.{cond}
 use mathlib.Core.List.{[], _∷_}
 use Prim.Native.Nat.{ℕ, _+_, _-_, _*_, _/_, _%_, _^_, _<_}
 use native.Mathlib.Omega.{arith}
-use lib.Dec.{eqb, ltb}
+use lib.Dec.{eqb}
 use Rattle.answers.specs.declared.Answer.{Answer}
 use Rattle.answers.specs.Sheet.{ok, value}
+use Rattle.timer.specs.Mask.{inMask}
 use Rattle.timer.proofs.ReadBack.{fields}
 use Rattle.timers.specs.declared.Timers.{Timers}
+use Rattle.timers.specs.State.{maskAt}
 use Rattle.timers.specs.Formed.{Formed as TimersFormed}
 use Rattle.timers.specs.Registers.{registerOf, writtenOf}
 use Rattle.timers.proofs.Formed.{formed-in}
 use Rattle.timers.proofs.Access.{read-capabilities}
+use Rattle.timers.proofs.Settings.{capabilities-fit}
 use Rattle.timers.proofs.Places.{Unlisted, unlisted-read, unlisted-write, capabilities-write}
 use Rattle.timers.proofs.ReadBack as Back
 use Rattle.timers.proofs.Others as Others
@@ -72,9 +75,14 @@ module _ (b : Board) (z : Formed b) (o : ℕ) (a : o % 8 ≡ 0) (l : o < 0x400) 
 -- ---- the list
 
 module _ (b : Board) (z : Formed b) (v : ℕ) where
-  -- "0x000, read only: 0x05F5E10080862201"
-  pub capabilities-back : answers b (set 0x000 v ∷ show 0x000 ∷ []) ≡ ok ∷ value 0x05F5E10080862201 ∷ []
-  capabilities-back = read-back b z 0x000 refl (omega arith) v 0x05F5E10080862201 (read-capabilities (writtenOf (b .timers) 0x000 v) 0x000 refl)
+  -- "0x000, read only": period, vendor, 64-bit counter, three timers, revision 1. The period and the vendor are the settings' (document 02, K6)
+  pub capabilities-back :
+      answers b (set 0x000 v ∷ show 0x000 ∷ []) ≡ ok ∷ value (b .timers .«tick_period» * 2 ^ 32 + (b .timers .vendor * 2 ^ 16 + 0x2201)) ∷ []
+  capabilities-back =
+      read-back b z 0x000 refl (omega arith) v _
+      (ap (λ (s : Timers). registerOf s 0x000) (capabilities-write (b .timers) v)
+      ∙ read-capabilities (b .timers) 0x000 refl
+      ∙ capabilities-fit (b .timers) (z .timed))
 
   pub capabilities-ignored : turnOf b (set 0x000 v) ≡ turn b ok
   capabilities-ignored = ignored-by b z 0x000 refl (omega arith) v (capabilities-write (b .timers) v)
@@ -123,20 +131,20 @@ module _ (b : Board) (z : Formed b) (v n k : ℕ) (l : n < 3) (e : register b (c
   was = shown-is b z (configuration n) a0 (omega arith) k e
 
   -- "Writable: 1 level type, 2 interrupt enable, 3 periodic, 6 set-comparator (kept only if bit 3 is written 1), 8 32-bit mode, 13:9 route. Bits 5 and 4 read 1;
-  -- bits 63:32 read 0x00FFFFFF; the rest read 0. A route above 23 keeps the old route; the other bits are taken."
+  -- … the rest read 0." Bits 63:32 read the timer's mask, and "a written route outside the mask keeps the old one" (document 02, K6); "the other bits are taken."
   pub configuration-back :
       answers b (set (configuration n) v ∷ show (configuration n) ∷ [])
       ≡ ok
       ∷ value
-      (0x00FFFFFF * 2 ^ 32
-      + (cond (ltb (v / 2 ^ 9 % 2 ^ 5) 24) (v / 2 ^ 9 % 2 ^ 5) (k / 2 ^ 9 % 2 ^ 5) * 2 ^ 9
+      (maskAt block n * 2 ^ 32
+      + (cond (inMask (maskAt block n) (v / 2 ^ 9 % 2 ^ 5)) (v / 2 ^ 9 % 2 ^ 5) (k / 2 ^ 9 % 2 ^ 5) * 2 ^ 9
       + (bit 8 v + (v / 2 ^ 3 % 2 * (v / 2 ^ 6 % 2) * 2 ^ 6 + (3 * 2 ^ 4 + (bit 3 v + (bit 2 v + bit 1 v)))))))
       ∷ []
   configuration-back =
       read-back b z (configuration n) a0 (omega arith) v _
       (Back.configuration-back block f n l v
       ∙ ap
-      (λ (x : ℕ). fields (cond (ltb (v / 2 ^ 9 % 2 ^ 5) 24) (v / 2 ^ 9 % 2 ^ 5) (x / 2 ^ 9 % 2 ^ 5)) (v / 2 ^ 8 % 2) (v / 2 ^ 3 % 2 * (v / 2 ^ 6 % 2)) (v / 2 ^ 3 % 2) (v / 2 ^ 2 % 2) (v / 2 ^ 1 % 2))
+      (λ (x : ℕ). fields (maskAt block n) (cond (inMask (maskAt block n) (v / 2 ^ 9 % 2 ^ 5)) (v / 2 ^ 9 % 2 ^ 5) (x / 2 ^ 9 % 2 ^ 5)) (v / 2 ^ 8 % 2) (v / 2 ^ 3 % 2 * (v / 2 ^ 6 % 2)) (v / 2 ^ 3 % 2) (v / 2 ^ 2 % 2) (v / 2 ^ 1 % 2))
       was)
 
   -- "Writing edge type clears the status."

@@ -2,6 +2,7 @@
 -- calls came since that write nothing at the data window and don't reset.
 use Prim.Native.Nat.{ℕ, _/_, _%_, _^_, _<_}
 use mathlib.Core.Path.{_≡_, sym, subst, _∙_}
+use mathlib.Core.Bool.{false}
 use mathlib.Core.List.{List, [], _∷_}
 use Rattle.answers.specs.declared.Answer.the-variants as answer
 use Rattle.entries.specs.declared.Entries.{Entries}
@@ -19,15 +20,17 @@ use Rattle.board.specs.Step.{endingOf, advancingOf, deliveringOnBoard, t
 use Rattle.board.specs.Runs.{run}
 use Rattle.board.proofs.Formed.{Formed, formed-out}
 use Rattle.board.proofs.Keeps.{keeps, served}
-use Rattle.board.proofs.Served.{served-wire, served-end, served-advance, served-deliver}
+use Rattle.board.proofs.Served.{reset-refused, served-wire, served-end, served-advance, served-deliver}
 use Rattle.board.proofs.Wired.{joined-keeps, ticks-keep, wiring-keeps}
 use Rattle.board.proofs.Leaves.{read-leaves}
+use Rattle.settings.specs.declared.Settings.{Settings}
+use Rattle.settings.specs.Settings.{inRange}
 use Rattle.board.specs.Accesses.{lowWord, highWord}
 use Rattle.board.proofs.Windows.{controller-writes, timers-writes}
 use Rattle.board.proofs.Demands.{every-run-keeps}
 use Rattle.board.proofs.ControllerMap.{stored, by-controller, both-formed, written-delivery}
 
--- every call but a write at the data window and a reset
+-- every call but a write at the data window and a reset that is done
 pub data Leaves : Call → Type 0 where
   reads : (window width offset : ℕ) → Leaves (call.Read window width offset)
   selects : (width value : ℕ) → Leaves (call.Write 0 width 0x00 value)
@@ -36,6 +39,7 @@ pub data Leaves : Call → Type 0 where
   ends : (vector : ℕ) → Leaves (call.End vector)
   advances : (n : ℕ) → Leaves (call.Advance n)
   delivers : Leaves call.Deliver
+  rejects : (z : Settings) → inRange z ≡ false → Leaves (call.Reset z)
 
 pub data AllLeave : List Call → Type 0 where
   none : AllLeave []
@@ -71,6 +75,7 @@ module _ (n : ℕ) (l : n < 24) where
     call-same c (wires p x) = by c _ (served b (call.Wire p x) (formed-out b z) ∙ served-wire b p x) (wiring-keeps As wires-leave b p x (stays-same n e))
     call-same c (ends v) = by c _ (served b (call.End v) (formed-out b z) ∙ served-end b v) (ended-stays n l e (z .sized) v)
     call-same c (advances k) = by c _ (served b (call.Advance k) (formed-out b z) ∙ served-advance b k) (ticks-keep As wires-leave k b (stays-same n e))
+    call-same c (rejects a e) = by c _ (reset-refused b a e) (stays-same n (b .controller .entries))
     call-same c delivers = by c _ (served b call.Deliver (formed-out b z) ∙ served-deliver b) (delivering-stays (b .controller) n l (z .sized))
 
   run-same : (cs : List Call) (b : Board) → Formed b → AllLeave cs → Same b (run b cs)

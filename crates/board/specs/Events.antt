@@ -47,7 +47,7 @@ eventOf (call.Wire pin level) a = other
 eventOf (call.End vector) a = cond (isDone a) (end vector) other
 eventOf (call.Advance n) a = other
 eventOf call.Deliver a = deliveryOf a
-eventOf call.Reset a = cond (isDone a) reset other
+eventOf (call.Reset z) a = cond (isDone a) reset other
 
 -- a reset takes any state
 abbrev pub isReset : Call → Bool
@@ -57,4 +57,4 @@ isReset (call.Wire pin level) = false
 isReset (call.End vector) = false
 isReset (call.Advance n) = false
 isReset call.Deliver = false
-isReset call.Reset = true
+isReset (call.Reset z) = true

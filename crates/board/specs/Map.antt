@@ -12,13 +12,16 @@ use Rattle.entries.specs.Table.{entriesOk, levelsOk, firstEligible, wired, ende
 use Rattle.controller.specs.State.{wellFormed as controllerFormed}
 use Rattle.controller.specs.Window.{dataRead, dataWritten, readingOf as controllerReading, writingOf as controllerWriting}
 use Rattle.controller.specs.Steps.{deliveringOf}
+use Rattle.settings.specs.Settings.{vendorOk, periodOk, maskOk}
+use Rattle.timer.specs.Mask.{inMask, lowest}
 use Rattle.timer.specs.State.{resetTimer}
 use Rattle.timer.specs.Registers.{configurationOf, configuredOf, setOf, clearedOf}
 use Rattle.timer.specs.Tick.{meets, firing, pulsing, driving}
 use Rattle.timer.specs.Formed.{flagsFit, narrowFits, timerFormed}
 use Rattle.timers.specs.State.{resetTimers}
-use Rattle.timers.specs.Formed.{wellFormed as timersFormed}
-use Rattle.timers.specs.Registers.{statusOf, timerRegister, registerOf, timerWritten, writtenOf, shownOf, storedOf}
+use Rattle.timers.specs.State.{resetTo as timersReset}
+use Rattle.timers.specs.Formed.{settingsFit, wellFormed as timersFormed}
+use Rattle.timers.specs.Registers.{capabilitiesOf, statusOf, timerRegister, registerOf, timerWritten, writtenOf, shownOf, storedOf}
 use Rattle.timers.specs.Tick.{countedOf, matchesOf, firedOf, drivesOf, pulsesOf, routeOf}
 use Rattle.timers.specs.Call.{readingOf as timersReading, writingOf as timersWriting}
 use Rattle.board.specs.declared.Call.the-variants as call
@@ -180,5 +183,5 @@ sheet =
 
 -- the statement computes, so it opens every definition down to the ground
 pub computed : map (λ (l : List Said). answers resetBoard (map (λ (s : Said). s .call) l)) sheet ≡ map (map (λ (s : Said). s .answer)) sheet
-unfolding sheet answers tab firstFrom allFrom modeOf remoteOf levelOf maskedOf withRemote withoutRemote writable written shown wordOk asserted makesEdge heldAfter eligible endedWord pinOk entriesOk levelsOk firstEligible wired ended taken lowShown lowWritten controllerFormed dataRead dataWritten controllerReading controllerWriting deliveringOf resetTimer configurationOf configuredOf setOf clearedOf meets firing pulsing driving flagsFit narrowFits timerFormed resetTimers timersFormed statusOf timerRegister registerOf timerWritten writtenOf shownOf storedOf countedOf matchesOf firedOf drivesOf pulsesOf routeOf timersReading timersWriting highAt wiresOf joined effect turned upTo tick firesIn ticks firings wellFormed readingOf writingOf wiringOf endingOf advancingOf deliveringOnBoard servedOf turnOf
+unfolding sheet answers tab firstFrom allFrom modeOf remoteOf levelOf maskedOf withRemote withoutRemote writable written shown wordOk asserted makesEdge heldAfter eligible endedWord pinOk entriesOk levelsOk firstEligible wired ended taken lowShown lowWritten controllerFormed dataRead dataWritten controllerReading controllerWriting deliveringOf resetTimer configurationOf configuredOf setOf clearedOf meets firing pulsing driving flagsFit narrowFits timerFormed lowest inMask vendorOk periodOk maskOk timersReset settingsFit timersFormed capabilitiesOf statusOf timerRegister registerOf timerWritten writtenOf shownOf storedOf countedOf matchesOf firedOf drivesOf pulsesOf routeOf timersReading timersWriting highAt wiresOf joined effect turned upTo tick firesIn ticks firings wellFormed readingOf writingOf wiringOf endingOf advancingOf deliveringOnBoard servedOf turnOf
 computed = refl

@@ -7,6 +7,7 @@ use Rattle.answers.specs.declared.Answer.{Answer}
 use Rattle.answers.specs.Order.{Test, test}
 use Rattle.controller.specs.Calls.{wireTests, readTests as controllerReadTests, writeTests as controllerWriteTests}
 use Rattle.timers.specs.Calls.{readTests as timersReadTests, writeTests as timersWriteTests}
+use Rattle.settings.specs.Settings.{inRange}
 use Rattle.board.specs.declared.Board.{Board}
 use Rattle.board.specs.declared.Call.{Call}
 use Rattle.board.specs.declared.Call.the-variants as call
@@ -31,7 +32,7 @@ formedTest b = test 5 (not (wellFormed b))
 abbrev accessTests : ℕ → List Test → List Test → List Test
 accessTests window controller timers = test 1 (not (eqb window 0 || eqb window 1)) ∷ cond (eqb window 0) controller timers
 
--- refusal 5 first; an access then tests 1 for an unknown window, 2, 1 for the offset, 4; a wire change tests 3, then 4; a reset tests nothing
+-- refusal 5 first; an access then tests 1 for an unknown window, 2, 1 for the offset, 4; a wire change tests 3, then 4; a reset tests only 10
 unfoldable pub testsOf : Board → Call → List Test
 testsOf b (call.Read window width offset) =
     formedTest b ∷ accessTests window (controllerReadTests width offset) (timersReadTests width offset)
@@ -41,4 +42,4 @@ testsOf b (call.Wire pin level) = formedTest b ∷ wireTests pin level
 testsOf b (call.End vector) = formedTest b ∷ []
 testsOf b (call.Advance n) = formedTest b ∷ []
 testsOf b call.Deliver = formedTest b ∷ []
-testsOf b call.Reset = []
+testsOf b (call.Reset z) = test 10 (not (inRange z)) ∷ []

@@ -3,6 +3,7 @@ use Prim.Native.Nat.{ℕ, _-_, _^_}
 use mathlib.Core.Path.{_≡_, refl}
 use mathlib.Core.Bool.{true}
 use mathlib.Core.List.{List, [], _∷_, _++_, map}
+use lib.ListN.{replicate}
 use Rattle.answers.specs.declared.Answer.{Answer}
 use Rattle.answers.specs.declared.Refusal.the-variants as refusal
 use Rattle.answers.specs.Numbers.{numberOf}
@@ -14,15 +15,20 @@ use Rattle.entries.specs.Table.{entriesOk, levelsOk, firstEligible, wired, puls
 use Rattle.controller.specs.State.{wellFormed as controllerFormed}
 use Rattle.controller.specs.Window.{dataRead, dataWritten, readingOf as controllerReading, writingOf as controllerWriting}
 use Rattle.controller.specs.Steps.{deliveringOf}
+use Rattle.settings.specs.Settings.{vendorOk, periodOk, maskOk}
+use Rattle.timer.specs.Mask.{inMask, lowest}
 use Rattle.timer.specs.State.{resetTimer}
 use Rattle.timer.specs.Registers.{configurationOf, configuredOf, setOf, clearedOf}
 use Rattle.timer.specs.Tick.{meets, firing, pulsing, driving}
 use Rattle.timer.specs.Formed.{flagsFit, narrowFits, timerFormed}
 use Rattle.timers.specs.State.{resetTimers}
-use Rattle.timers.specs.Formed.{wellFormed as timersFormed}
-use Rattle.timers.specs.Registers.{statusOf, timerRegister, registerOf, timerWritten, writtenOf, shownOf, storedOf}
+use Rattle.timers.specs.State.{resetTo as timersReset}
+use Rattle.timers.specs.Formed.{settingsFit, wellFormed as timersFormed}
+use Rattle.timers.specs.Registers.{capabilitiesOf, statusOf, timerRegister, registerOf, timerWritten, writtenOf, shownOf, storedOf}
 use Rattle.timers.specs.Tick.{countedOf, matchesOf, firedOf, drivesOf, pulsesOf, routeOf}
 use Rattle.timers.specs.Call.{readingOf as timersReading, writingOf as timersWriting}
+use Rattle.timer.specs.declared.Timer.{Timer}
+use Rattle.board.specs.declared.Board.{Board}
 use Rattle.board.specs.declared.Call.{Call}
 use Rattle.board.specs.declared.Call.the-variants as call
 use Rattle.board.specs.State.{resetBoard}
@@ -91,9 +97,38 @@ sheet =
 
 -- the statement computes, so it opens every definition down to the ground
 pub bench : map (λ (l : Line). answers resetBoard (l .calls)) sheet ≡ map (λ (l : Line). l .answered) sheet
-unfolding sheet answers tab firstFrom allFrom modeOf remoteOf levelOf maskedOf withRemote withoutRemote writable written shown wordOk asserted makesEdge heldAfter eligible endedWord pinOk entriesOk levelsOk firstEligible wired pulsed ended taken lowShown lowWritten controllerFormed dataRead dataWritten controllerReading controllerWriting deliveringOf resetTimer configurationOf configuredOf setOf clearedOf meets firing pulsing driving flagsFit narrowFits timerFormed resetTimers timersFormed statusOf timerRegister registerOf timerWritten writtenOf shownOf storedOf countedOf matchesOf firedOf drivesOf pulsesOf routeOf timersReading timersWriting highAt wiresOf joined effect turned upTo tick firesIn ticks firings wellFormed readingOf writingOf wiringOf endingOf advancingOf deliveringOnBoard servedOf turnOf
+unfolding sheet answers tab firstFrom allFrom modeOf remoteOf levelOf maskedOf withRemote withoutRemote writable written shown wordOk asserted makesEdge heldAfter eligible endedWord pinOk entriesOk levelsOk firstEligible wired pulsed ended taken lowShown lowWritten controllerFormed dataRead dataWritten controllerReading controllerWriting deliveringOf resetTimer configurationOf configuredOf setOf clearedOf meets firing pulsing driving flagsFit narrowFits timerFormed lowest inMask vendorOk periodOk maskOk timersReset settingsFit timersFormed capabilitiesOf statusOf timerRegister registerOf timerWritten writtenOf shownOf storedOf countedOf matchesOf firedOf drivesOf pulsesOf routeOf timersReading timersWriting highAt wiresOf joined effect turned upTo tick firesIn ticks firings wellFormed readingOf writingOf wiringOf endingOf advancingOf deliveringOnBoard servedOf turnOf
 bench = refl
 
 pub reset-formed : wellFormed resetBoard ≡ true
-unfolding tab allFrom remoteOf levelOf wordOk pinOk entriesOk levelsOk controllerFormed resetTimer driving flagsFit narrowFits timerFormed resetTimers timersFormed drivesOf highAt wellFormed
+unfolding tab allFrom remoteOf levelOf wordOk pinOk entriesOk levelsOk controllerFormed resetTimer driving flagsFit narrowFits timerFormed lowest inMask vendorOk periodOk maskOk timersReset settingsFit timersFormed drivesOf highAt wellFormed firstFrom
 reset-formed = refl
+
+-- the board after a reset without settings, number by number, as document 01 has it
+abbrev timerOf01 : Timer
+timerOf01 = record { comparator = 2 ^ 64 - 1; period = 0; route = 0; «level_type» = 0; interrupt = 0; periodic = 0; «set_comparator» = 0; narrow = 0; status = 0 }
+
+abbrev boardOf01 : Board
+boardOf01 =
+    record {
+      timers =
+          record {
+            counter = 0;
+            «tick_period» = 100000000;
+            vendor = 0x8086;
+            masks = 0x00FFFFFF ∷ 0x00FFFFFF ∷ 0x00FFFFFF ∷ [];
+            enabled = 0;
+            timer = timerOf01 ∷ timerOf01 ∷ timerOf01 ∷ [];
+          };
+      controller =
+          record {
+            id = 0;
+            index = 0;
+            entries = record { low = replicate 24 0x10000; destination = replicate 24 0; level = replicate 24 0; held = replicate 24 0 };
+          };
+      outside = replicate 24 0;
+    }
+
+pub reset-is : resetBoard ≡ boardOf01
+unfolding timersReset resetTimer lowest inMask firstFrom
+reset-is = refl

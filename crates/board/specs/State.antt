@@ -6,10 +6,13 @@ use Rattle.answers.specs.declared.Answer.{Answer}
 use Rattle.answers.specs.declared.Answer.the-variants as answer
 use Rattle.answers.specs.declared.Refusal.{Refusal}
 use Rattle.controller.specs.declared.Controller.{Controller}
-use Rattle.controller.specs.State.{resetController, withEntries}
+use Rattle.controller.specs.State.{withEntries}
+use Rattle.controller.specs.State.{resetTo as controllerReset}
 use Rattle.entries.specs.Table.{withLow, withLevel, withHeld}
 use Rattle.timers.specs.declared.Timers.{Timers}
-use Rattle.timers.specs.State.{resetTimers}
+use Rattle.timers.specs.State.{resetTo as timersReset}
+use Rattle.settings.specs.declared.Settings.{Settings}
+use Rattle.settings.specs.Settings.{standard}
 use Rattle.board.specs.declared.Board.{Board}
 use Rattle.board.specs.declared.Turn.{Turn}
 
@@ -27,9 +30,13 @@ withEntry b w h = withController b (withEntries (b .controller) (withHeld (withL
 abbrev pub withWires : Board → List ℕ → List ℕ → List ℕ → Board
 withWires b l h o = board (withEntries (b .controller) (withLevel (withHeld (b .controller .entries) h) l)) (b .timers) o
 
--- reset: the controller's, the timers', outside wires low
+-- reset with settings: the controller's, the timers', outside wires low
+abbrev pub resetTo : Settings → Board
+resetTo z = board (controllerReset (z .id)) (timersReset z) (replicate 24 0)
+
+-- without: as in document 01
 abbrev pub resetBoard : Board
-resetBoard = board resetController resetTimers (replicate 24 0)
+resetBoard = resetTo standard
 
 -- the next board and the answer
 abbrev pub turn : Board → Answer → Turn

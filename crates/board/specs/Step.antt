@@ -15,7 +15,9 @@ use Rattle.board.specs.declared.Board.{Board}
 use Rattle.board.specs.declared.Call.{Call}
 use Rattle.board.specs.declared.Call.the-variants as call
 use Rattle.board.specs.declared.Turn.{Turn}
-use Rattle.board.specs.State.{withController, turn, refused}
+use Rattle.settings.specs.declared.Settings.{Settings}
+use Rattle.settings.specs.Settings.{standard, inRange}
+use Rattle.board.specs.State.{withController, turn, refused, resetTo}
 use Rattle.board.specs.State.{resetBoard as reset}
 use Rattle.board.specs.Wires.{joined}
 use Rattle.board.specs.Tick.{ticks, firings}
@@ -63,6 +65,10 @@ advancingOf b n = turn (ticks n b) (answer.Fired (firings 0 n b) (firings 1 n b)
 unfoldable pub deliveringOnBoard : Board → Turn
 deliveringOnBoard b = byController b (deliveringOf (b .controller))
 
+-- a reset tests 10: settings out of range; refused, it hands the board back
+unfoldable pub resettingOf : Board → Settings → Turn
+resettingOf b z = cond (inRange z) (turn (resetTo z) answer.Done) (refused b refusal.Range)
+
 -- what a call does to a board that it takes
 unfoldable pub servedOf : Board → Call → Turn
 servedOf b (call.Read window width offset) = readingOf b window width offset
@@ -71,9 +77,9 @@ servedOf b (call.Wire pin level) = wiringOf b pin level
 servedOf b (call.End vector) = endingOf b vector
 servedOf b (call.Advance n) = advancingOf b n
 servedOf b call.Deliver = deliveringOnBoard b
-servedOf b call.Reset = turn reset answer.Done
+servedOf b (call.Reset z) = resettingOf b z
 
--- a reset takes any state; for every other call refusal 5 is tested first
+-- a reset takes any state, and never tests 5; for every other call refusal 5 is tested first
 abbrev pub takes : Board → Call → Bool
 takes b (call.Read window width offset) = wellFormed b
 takes b (call.Write window width offset value) = wellFormed b
@@ -81,7 +87,7 @@ takes b (call.Wire pin level) = wellFormed b
 takes b (call.End vector) = wellFormed b
 takes b (call.Advance n) = wellFormed b
 takes b call.Deliver = wellFormed b
-takes b call.Reset = true
+takes b (call.Reset z) = true
 
 -- the promise of every call
 unfoldable pub turnOf : Board → Call → Turn
@@ -93,3 +99,7 @@ formed = wellFormed
 
 abbrev pub resetBoard : Board
 resetBoard = reset
+
+-- a reset without settings is as in document 01
+abbrev pub plainReset : Call
+plainReset = call.Reset standard

@@ -7,9 +7,10 @@ mod wires;
 
 use answers::Answer;
 use controller::Controller;
+use settings::Settings;
 use timers::Timers;
 
-// By value, 288 bytes, none of them padding.
+// By value, 304 bytes, none of them padding.
 #[repr(C)]
 pub struct Board {
     pub timers: Timers,
@@ -41,7 +42,10 @@ pub enum Call {
         ticks: u32,
     },
     Deliver,
-    Reset,
+    // with settings; document 01's are `Settings::standard`
+    Reset {
+        settings: Settings,
+    },
 }
 
 pub struct Turn {

@@ -1,15 +1,16 @@
-// Every call: the board is tested once, unless the call is a reset, then the call is served. A call named -ing is what the
-// call does once the board is known to be well formed: the monitor tests it where it lies.
+// Every call: the board is tested once, unless the call is a reset, which tests its settings; then the call is served.
+// A call named -ing is what the call does once the board is known to be well formed: the monitor tests it in place.
 ghost use mathlib.Core.Path.{_≡_};
 ghost use Rattle.board.specs.declared.Call.the-variants as call;
 ghost use Rattle.board.specs.State.{refused};
-ghost use Rattle.board.specs.Step.{readingOf, writingOf, endingOf, deliveringOnBoard, turnOf};
+ghost use Rattle.board.specs.Step.{readingOf, writingOf, endingOf, deliveringOnBoard, resettingOf, turnOf};
 ghost use Rattle.board.specs.At.{wiringAt};
 use crate::Board;
 use crate::Call;
 use crate::Turn;
 use answers::Answer;
 use answers::Refusal;
+use settings::Settings;
 
 impl Board {
     pub const CONTROLLER: u64 = 0;
@@ -183,6 +184,20 @@ impl Board {
         }
     }
 
+    // A reset takes any board; settings out of range are 10, and the board stays.
+    pub fn resetting(self, settings: Settings) -> Turn
+        ensures { λ r. ⌜ r ≡ resettingOf self settings ⌝ }
+    {
+        if settings.in_range() {
+            Turn {
+                board: Board::reset_to(settings),
+                answer: Answer::Done,
+            }
+        } else {
+            self.refused(Refusal::Range)
+        }
+    }
+
     pub fn step(self, call: Call) -> Turn
         ensures { λ r. ⌜ r ≡ turnOf self call ⌝ }
     {
@@ -202,10 +217,7 @@ impl Board {
             Call::End { vector } => self.end(vector),
             Call::Advance { ticks } => self.advance(ticks),
             Call::Deliver => self.deliver(),
-            Call::Reset => Turn {
-                board: Board::reset(),
-                answer: Answer::Done,
-            },
+            Call::Reset { settings } => self.resetting(settings),
         }
     }
 }

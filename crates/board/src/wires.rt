@@ -4,12 +4,13 @@ ghost use mathlib.Core.Bool.{_&&_, _||_};
 ghost use lib.Dec.{eqb};
 ghost use Rattle.pins.specs.Pins.{every};
 ghost use Rattle.entries.specs.Table.{levelsOk};
-ghost use Rattle.board.specs.State.{resetBoard};
+ghost use Rattle.board.specs.State.{resetTo, resetBoard};
 ghost use Rattle.board.specs.Wires.{wiresOf, joined};
 ghost use Rattle.board.specs.Formed.{keptAt, wellFormed};
 use crate::Board;
 use controller::Controller;
 use entries::Entries;
+use settings::Settings;
 use timers::Timers;
 
 // The pin is one of the three.
@@ -39,14 +40,22 @@ pub fn wires(outside: [u8; 24], timers: Timers) -> [u8; 24]
 }
 
 impl Board {
+    // With settings: what is out of range is kept, and the board is then not well formed. `resetting` tests it.
+    pub fn reset_to(settings: Settings) -> Board
+        ensures { λ r. ⌜ r ≡ resetTo settings ⌝ }
+    {
+        Board {
+            timers: Timers::reset_to(settings),
+            controller: Controller::reset_to(settings.id),
+            outside: [0; 24],
+        }
+    }
+
+    // As in document 01.
     pub fn reset() -> Board
         ensures { λ r. ⌜ r ≡ resetBoard ⌝ }
     {
-        Board {
-            timers: Timers::reset(),
-            controller: Controller::reset(),
-            outside: [0; 24],
-        }
+        Board::reset_to(Settings::standard())
     }
 
     // The parts joined, one step: the pins' levels are those of the wire rule, and edges are held.

@@ -19,13 +19,13 @@ use Rattle.controller.specs.declared.Controller.{Controller}
 use Rattle.timer.specs.declared.Timer.{Timer}
 use Rattle.timer.specs.State.{blank}
 use Rattle.timers.specs.declared.Timers.{Timers}
-use Rattle.timers.specs.State.{at}
+use Rattle.timers.specs.State.{at, maskAt}
 use Rattle.timers.proofs.Three.{of-three}
 use Rattle.board.specs.declared.Board.{Board}
 use Rattle.board.specs.declared.Turn.{Turn}
 use Rattle.compare.specs.declared.Code.{Code}
 use Rattle.compare.specs.Code.{rankOf, codeOf, ranked, meant}
-use Rattle.compare.specs.Same.{sameCode, sameAnswer, sameAt, samePins, sameTimer, sameTimers, sameEntries, sameController, sameBoard, sameTurn}
+use Rattle.compare.specs.Same.{sameCode, sameAnswer, sameAt, samePins, sameTimer, sameSettings, sameTimers, sameEntries, sameController, sameBoard, sameTurn}
 
 -- ---- answers
 
@@ -43,6 +43,9 @@ ranked-back refusal.Kind = refl
 ranked-back refusal.Short = refl
 ranked-back refusal.NoRoom = refl
 ranked-back refusal.NotEdge = refl
+ranked-back refusal.Length = refl
+ranked-back refusal.Form = refl
+ranked-back refusal.Range = refl
 
 meant-back : (a : Answer) → meant (codeOf a) ≡ a
 unfolding codeOf meant
@@ -163,6 +166,33 @@ timer-itself x =
     and-both (itself (x .comparator)) (and-both (itself (x .period)) (and-both (itself (x .route)) (and-both (itself (x .«level_type»)) (and-both (itself (x .interrupt)) (and-both (itself (x .periodic)) (and-both (itself (x .«set_comparator»)) (and-both (itself (x .narrow)) (itself (x .status)))))))))
 
 module _ (x y : Timers) where
+  abbrev masks-2 : Bool
+  masks-2 = eqb (maskAt x 2) (maskAt y 2)
+
+  abbrev masks-1 : Bool
+  masks-1 = eqb (maskAt x 1) (maskAt y 1) && masks-2
+
+  abbrev masks-0 : Bool
+  masks-0 = eqb (maskAt x 0) (maskAt y 0) && masks-1
+
+  abbrev made : Bool
+  made = eqb (x .vendor) (y .vendor) && masks-0
+
+  same-settings :
+      length (x .masks) ≡ 3 → length (y .masks) ≡ 3 → sameSettings x y ≡ true → (x .«tick_period» ≡ y .«tick_period») × (x .vendor ≡ y .vendor) × (x .masks ≡ y .masks)
+  unfolding sameSettings
+  same-settings lx ly e =
+      let e1 = later (x .«tick_period») (y .«tick_period») made e in
+      let e2 = later (x .vendor) (y .vendor) masks-0 e1 in
+      let e3 = later (maskAt x 0) (maskAt y 0) masks-1 e2 in
+      let m0 = first (maskAt x 0) (maskAt y 0) masks-1 e2 in
+      let m1 = first (maskAt x 1) (maskAt y 1) masks-2 e3 in
+      let m2 = eqb-true (maskAt x 2) (maskAt y 2) (later (maskAt x 1) (maskAt y 1) masks-2 e3) in (
+        first (x .«tick_period») (y .«tick_period») made e,
+        first (x .vendor) (y .vendor) masks-0 e1,
+        of-three (x .masks) 0 lx ∙ (λ j. m0 j ∷ m1 j ∷ m2 j ∷ []) ∙ sym (of-three (y .masks) 0 ly),
+      )
+
   abbrev later-timers : Bool
   later-timers = sameTimer (at x 1) (at y 1) && sameTimer (at x 2) (at y 2)
 
@@ -172,10 +202,12 @@ module _ (x y : Timers) where
   abbrev on : Bool
   on = eqb (x .enabled) (y .enabled) && each
 
-  same-timers : length (x .timer) ≡ 3 → length (y .timer) ≡ 3 → sameTimers x y ≡ true → x ≡ y
+  same-timers : length (x .masks) ≡ 3 → length (y .masks) ≡ 3 → length (x .timer) ≡ 3 → length (y .timer) ≡ 3 → sameTimers x y ≡ true → x ≡ y
   unfolding sameTimers
-  same-timers lx ly e =
-      let e1 = later (x .counter) (y .counter) on e in
+  same-timers kx ky lx ly e =
+      let e0 = later (x .counter) (y .counter) (sameSettings x y && on) e in
+      let k = same-settings kx ky (and-left (sameSettings x y) on e0) in
+      let e1 = and-right (sameSettings x y) on e0 in
       let e2 = later (x .enabled) (y .enabled) each e1 in
       let e3 = and-right (sameTimer (at x 0) (at y 0)) later-timers e2 in
       let t0 = same-timer (at x 0) (at y 0) (and-left (sameTimer (at x 0) (at y 0)) later-timers e2) in
@@ -183,16 +215,25 @@ module _ (x y : Timers) where
       let t2 = same-timer (at x 2) (at y 2) (and-right (sameTimer (at x 1) (at y 1)) (sameTimer (at x 2) (at y 2)) e3) in
       λ i.
       record {
-        counter = first (x .counter) (y .counter) on e i;
+        counter = first (x .counter) (y .counter) (sameSettings x y && on) e i;
+        «tick_period» = k .0 i;
+        vendor = k .1 i;
+        masks = k .2 i;
         enabled = first (x .enabled) (y .enabled) each e1 i;
         timer = (of-three (x .timer) blank lx ∙ (λ j. t0 j ∷ t1 j ∷ t2 j ∷ []) ∙ sym (of-three (y .timer) blank ly)) i;
       }
+
+settings-itself : (x : Timers) → sameSettings x x ≡ true
+unfolding sameSettings
+settings-itself x =
+    and-both (itself (x .«tick_period»)) (and-both (itself (x .vendor)) (and-both (itself (maskAt x 0)) (and-both (itself (maskAt x 1)) (itself (maskAt x 2)))))
 
 timers-itself : (x : Timers) → sameTimers x x ≡ true
 unfolding sameTimers
 timers-itself x =
     and-both (itself (x .counter))
-    (and-both (itself (x .enabled)) (and-both (timer-itself (at x 0)) (and-both (timer-itself (at x 1)) (timer-itself (at x 2)))))
+    (and-both (settings-itself x)
+    (and-both (itself (x .enabled)) (and-both (timer-itself (at x 0)) (and-both (timer-itself (at x 1)) (timer-itself (at x 2))))))
 
 -- ---- entries, controller, board
 
@@ -245,6 +286,7 @@ controller-itself x = and-both (itself (x .id)) (and-both (itself (x .index)) (e
 -- a board's lists are as long as the code's arrays, as those of every value that the code can have
 pub record Long (b : Board) : Type 0 where
   pub entries : Sized (b .controller .entries)
+  pub masks : length (b .timers .masks) ≡ 3
   pub timers : length (b .timers .timer) ≡ 3
   pub outside : length (b .outside) ≡ 24
 
@@ -258,7 +300,7 @@ module _ (x y : Board) where
       let e1 = and-right (sameTimers (x .timers) (y .timers)) rest e in
       λ i.
       record {
-        timers = same-timers (x .timers) (y .timers) (zx .timers) (zy .timers) (and-left (sameTimers (x .timers) (y .timers)) rest e) i;
+        timers = same-timers (x .timers) (y .timers) (zx .masks) (zy .masks) (zx .timers) (zy .timers) (and-left (sameTimers (x .timers) (y .timers)) rest e) i;
         controller = same-controller (x .controller) (y .controller) (zx .entries) (zy .entries) (and-left (sameController (x .controller) (y .controller)) (samePins (x .outside) (y .outside)) e1) i;
         outside = same-pins (x .outside) (y .outside) (zx .outside) (zy .outside) (and-right (sameController (x .controller) (y .controller)) (samePins (x .outside) (y .outside)) e1) i;
       }

@@ -8,7 +8,7 @@ use Rattle.answers.specs.declared.Refusal.{Refusal}
 use Rattle.answers.specs.declared.Refusal.the-variants as refusal
 use Rattle.compare.specs.declared.Code.{Code}
 
--- each reason by a number of its own: two of the paper's numbers stand for two reasons each
+-- each reason by a number of its own: three of the paper's numbers stand for two reasons each
 unfoldable pub rankOf : Refusal → ℕ
 rankOf refusal.Window = 0
 rankOf refusal.Offset = 1
@@ -22,6 +22,9 @@ rankOf refusal.Kind = 8
 rankOf refusal.Short = 9
 rankOf refusal.NoRoom = 10
 rankOf refusal.NotEdge = 11
+rankOf refusal.Length = 12
+rankOf refusal.Form = 13
+rankOf refusal.Range = 14
 
 abbrev pub code : ℕ → ℕ → ℕ → ℕ → ℕ → Code
 code k a b c d = record { kind = k; a = a; b = b; c = c; d = d }
@@ -47,7 +50,10 @@ ranked n =
     (cond (eqb n 7) refusal.Mark
     (cond (eqb n 8) refusal.Kind
     (cond (eqb n 9) refusal.Short
-    (cond (eqb n 10) refusal.NoRoom refusal.NotEdge))))))))))
+    (cond (eqb n 10) refusal.NoRoom
+    (cond (eqb n 11) refusal.NotEdge
+    (cond (eqb n 12) refusal.Length
+    (cond (eqb n 13) refusal.Form refusal.Range)))))))))))))
 
 unfoldable pub meant : Code → Answer
 meant x =

@@ -10,7 +10,7 @@ use Rattle.entries.specs.declared.Entries.{Entries}
 use Rattle.controller.specs.declared.Controller.{Controller}
 use Rattle.timer.specs.declared.Timer.{Timer}
 use Rattle.timers.specs.declared.Timers.{Timers}
-use Rattle.timers.specs.State.{at}
+use Rattle.timers.specs.State.{at, maskAt}
 use Rattle.board.specs.declared.Board.{Board}
 use Rattle.board.specs.declared.Turn.{Turn}
 use Rattle.compare.specs.declared.Code.{Code}
@@ -43,10 +43,17 @@ sameTimer x y =
     && (eqb (x .periodic) (y .periodic)
     && (eqb (x .«set_comparator») (y .«set_comparator») && (eqb (x .narrow) (y .narrow) && eqb (x .status) (y .status))))))))
 
+-- the settings that a block keeps
+unfoldable pub sameSettings : Timers → Timers → Bool
+sameSettings x y =
+    eqb (x .«tick_period») (y .«tick_period»)
+    && (eqb (x .vendor) (y .vendor)
+    && (eqb (maskAt x 0) (maskAt y 0) && (eqb (maskAt x 1) (maskAt y 1) && eqb (maskAt x 2) (maskAt y 2))))
+
 unfoldable pub sameTimers : Timers → Timers → Bool
 sameTimers x y =
     eqb (x .counter) (y .counter)
-    && (eqb (x .enabled) (y .enabled) && (sameTimer (at x 0) (at y 0) && (sameTimer (at x 1) (at y 1) && sameTimer (at x 2) (at y 2))))
+    && (sameSettings x y && (eqb (x .enabled) (y .enabled) && (sameTimer (at x 0) (at y 0) && (sameTimer (at x 1) (at y 1) && sameTimer (at x 2) (at y 2)))))
 
 unfoldable pub sameEntries : Entries → Entries → Bool
 sameEntries x y =

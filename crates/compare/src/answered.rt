@@ -7,7 +7,7 @@ use crate::Code;
 use answers::Answer;
 use answers::Refusal;
 
-// Each reason by a number of its own: two of the paper's numbers stand for two reasons each.
+// Each reason by a number of its own: three of the paper's numbers stand for two reasons each.
 fn rank(refusal: Refusal) -> u64
     ensures { λ r. ⌜ r ≡ rankOf refusal ⌝ }
 {
@@ -24,6 +24,9 @@ fn rank(refusal: Refusal) -> u64
         Refusal::Short => 9,
         Refusal::NoRoom => 10,
         Refusal::NotEdge => 11,
+        Refusal::Length => 12,
+        Refusal::Form => 13,
+        Refusal::Range => 14,
     }
 }
 

@@ -1,6 +1,6 @@
 // Two boards, field by field.
 ghost use mathlib.Core.Path.{_≡_};
-ghost use Rattle.compare.specs.Same.{samePins, sameTimer, sameTimers, sameEntries, sameController, sameBoard};
+ghost use Rattle.compare.specs.Same.{samePins, sameTimer, sameSettings, sameTimers, sameEntries, sameController, sameBoard};
 use board::Board;
 use controller::Controller;
 use entries::Entries;
@@ -44,6 +44,15 @@ fn same_timer(x: Timer, y: Timer) -> bool
                                 & ((x.narrow == y.narrow) & (x.status == y.status))))))))
 }
 
+// The settings that the blocks keep.
+fn same_settings(x: Timers, y: Timers) -> bool
+    ensures { λ r. ⌜ r ≡ sameSettings x y ⌝ }
+{
+    let masks = (x.masks[0] == y.masks[0])
+        & ((x.masks[1] == y.masks[1]) & (x.masks[2] == y.masks[2]));
+    (x.tick_period == y.tick_period) & ((x.vendor == y.vendor) & masks)
+}
+
 fn same_timers(x: Timers, y: Timers) -> bool
     ensures { λ r. ⌜ r ≡ sameTimers x y ⌝ }
 {
@@ -54,8 +63,9 @@ fn same_timers(x: Timers, y: Timers) -> bool
     let y1 = y.timer[1];
     let y2 = y.timer[2];
     (x.counter == y.counter)
-        & ((x.enabled == y.enabled)
-            & (same_timer(x0, y0) & (same_timer(x1, y1) & same_timer(x2, y2))))
+        & (same_settings(x, y)
+            & ((x.enabled == y.enabled)
+                & (same_timer(x0, y0) & (same_timer(x1, y1) & same_timer(x2, y2)))))
 }
 
 fn same_entries(x: Entries, y: Entries) -> bool

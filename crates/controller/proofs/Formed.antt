@@ -19,7 +19,7 @@ use Rattle.entries.proofs.Pulse.{set-ok}
 use Rattle.entries.proofs.Delivery.{low-written-level, taken-level}
 use Rattle.controller.specs.declared.Controller.{Controller}
 use Rattle.controller.specs.declared.Turn.{Turn}
-use Rattle.controller.specs.State.{resetController, withId, withIndex, withEntries, wellFormed, turn, refused}
+use Rattle.controller.specs.State.{resetTo, withId, withIndex, withEntries, wellFormed, turn, refused}
 use Rattle.controller.specs.Window.{dataRead, dataWritten, readingOf, writingOf, readOf, writeOf, entryWritten}
 use Rattle.controller.specs.Steps.{rewired, wireOf, afterEnd, endOf, deliveringOf, deliverOf}
 use Rattle.controller.specs.Calls.{Call, read, write, wire, end, deliver, turnOf}
@@ -43,8 +43,8 @@ pub well-formed : (c : Controller) → Formed c → wellFormed c ≡ true
 unfolding wellFormed
 well-formed c f = and-both (and-both (f .id) (f .index)) (f .entries)
 
-pub reset-formed : wellFormed resetController ≡ true
-reset-formed = well-formed resetController (record { id = refl; index = refl; entries = reset-ok })
+pub reset-formed : (id : ℕ) → id ≤ 15 → wellFormed (resetTo id) ≡ true
+reset-formed id l = well-formed (resetTo id) (record { id = le-leb id 15 l; index = refl; entries = reset-ok })
 
 -- a call's turn keeps well-formedness and sizes: what both say of the next state
 pub record Keeps (t : Turn) : Type 0 where

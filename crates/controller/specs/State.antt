@@ -11,9 +11,13 @@ use Rattle.entries.specs.Table.{resetEntries, entriesOk}
 use Rattle.controller.specs.declared.Controller.{Controller}
 use Rattle.controller.specs.declared.Turn.{Turn}
 
--- id 0, index 0
+-- with settings: the id register starts at their id; index 0
+abbrev pub resetTo : ℕ → Controller
+resetTo id = record { id = id; index = 0; entries = resetEntries }
+
+-- without: id 0
 abbrev pub resetController : Controller
-resetController = record { id = 0; index = 0; entries = resetEntries }
+resetController = resetTo 0
 
 -- the state with another part
 abbrev pub withId : Controller → ℕ → Controller

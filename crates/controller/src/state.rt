@@ -1,5 +1,5 @@
 ghost use mathlib.Core.Path.{_≡_};
-ghost use Rattle.controller.specs.State.{resetController, wellFormed, refused};
+ghost use Rattle.controller.specs.State.{resetTo, resetController, wellFormed, refused};
 use crate::Controller;
 use crate::Turn;
 use answers::Answer;
@@ -12,14 +12,22 @@ impl Controller {
 
     pub const LAST_INDEX: u32 = 255;
 
-    pub fn reset() -> Controller
-        ensures { λ r. ⌜ r ≡ resetController ⌝ }
+    // With settings: what is out of range is kept as it is, and the state is then not well formed.
+    pub fn reset_to(id: u8) -> Controller
+        ensures { λ r. ⌜ r ≡ resetTo id ⌝ }
     {
         Controller {
-            id: 0,
+            id: id as u32,
             index: 0,
             entries: Entries::reset(),
         }
+    }
+
+    // As in document 01.
+    pub fn reset() -> Controller
+        ensures { λ r. ⌜ r ≡ resetController ⌝ }
+    {
+        Controller::reset_to(0)
     }
 
     pub fn well_formed(self) -> bool

@@ -1,7 +1,7 @@
 -- Each refusal if and only if, and what a refused call leaves. Sized says that the lists of a mill's board are as long as the code's arrays; it
 -- holds of every value that the code can have.
 use Prim.Native.Nat.{ℕ}
-use mathlib.Core.Path.{_≡_, refl, ap, _∙_}
+use mathlib.Core.Path.{_≡_, refl, sym, ap, _∙_}
 use mathlib.Core.Bool.{Bool, true, false, not, cond}
 use mathlib.Core.List.{List, [], _∷_}
 use lib.Dec.{ltb}
@@ -10,7 +10,7 @@ use Rattle.answers.specs.declared.Answer.the-variants as answer
 use Rattle.answers.specs.declared.Refusal.{Refusal}
 use Rattle.answers.specs.declared.Refusal.the-variants as refusal
 use Rattle.answers.specs.Numbers.{numberOf, bare, numbersOf, isDone}
-use Rattle.answers.specs.Order.{Test, test, Given}
+use Rattle.answers.specs.Order.{firstNumber, Test, test, Given}
 use Rattle.answers.proofs.Order.{only-if, if, Decided, done-decided, refused-decided, later-decided}
 use Rattle.answers.proofs.Refused.{answerNumber, refused-bare, one-result}
 use Rattle.board.specs.declared.Board.{Board}
@@ -21,7 +21,10 @@ use Rattle.board.specs.Runs.{testsOf as boardTests}
 use Rattle.board.specs.Events.{Event, reset, end, other, isEdge, deliveryOf, eventOf}
 use Rattle.board.proofs.Formed.{Sized}
 use Rattle.board.proofs.Demands.{decided as board-decided}
-use Rattle.board.proofs.Served.{turn-reset}
+use Rattle.board.proofs.Served.{reset-done, reset-refused}
+use Rattle.settings.specs.declared.Settings.{Settings}
+use Rattle.settings.specs.Settings.{inRange}
+use Rattle.board.specs.declared.Turn.{Turn}
 use Rattle.mill.specs.declared.Mill.{Mill}
 use Rattle.mill.specs.declared.MillCall.{MillCall}
 use Rattle.mill.specs.declared.MillCall.the-variants as millcall
@@ -30,6 +33,7 @@ use Rattle.mill.specs.Screen.{shownAfter}
 use Rattle.mill.specs.Mill.{mill, heldOf, wellFormed, refused, byBoard, lookedAt, tellingOf, isPaused, resumingOf, servedOf, turnOf}
 use Rattle.mill.specs.Runs.{testsOf}
 use Rattle.mill.proofs.Keeps.{Good, good-in}
+use Rattle.mill.proofs.Served.{reset-served, reset-rejected}
 use Rattle.mill.proofs.Steps.{shown-rests}
 
 abbrev DecidedTurn : Mill → List Test → MillTurn → Type 0
@@ -62,7 +66,7 @@ did-nothing (call.Wire pin level) a f = refl
 did-nothing (call.End vector) a f = ap (λ (x : Bool). cond x (end vector) other) (not-done a f)
 did-nothing (call.Advance n) a f = refl
 did-nothing call.Deliver a f = no-delivery a f
-did-nothing call.Reset a f = ap (λ (x : Bool). cond x reset other) (not-done a f)
+did-nothing (call.Reset z) a f = ap (λ (x : Bool). cond x reset other) (not-done a f)
 
 module _ (m : Mill) where
   refuses : (n : ℕ) (ts : List Test) (r : Refusal) → numberOf r ≡ n → DecidedTurn m (test n true ∷ ts) (refused m r)
@@ -98,13 +102,27 @@ module _ (m : Mill) (z : Sized (m .board)) where
             ∙ ap (mill (m .board)) (shown-rests m g);
       }
 
-  reset-decided : DecidedTurn m (boardTests (m .board) call.Reset) (byBoard (m .screen) call.Reset (boardTurn (m .board) call.Reset))
+  -- a reset, whatever the mill is
+  reset-decided : (s : Settings) → DecidedTurn m (boardTests (m .board) (call.Reset s)) (turnOf m (millcall.Board (call.Reset s)))
   unfolding numbersOf
-  reset-decided =
-      record {
-        number = board-decided (m .board) z call.Reset .number;
-        same = λ f. absurd (f (ap (λ t. answerNumber (t .answer)) (turn-reset (m .board))));
-      }
+  reset-decided s = go (inRange s) refl
+    where
+      d : answerNumber (boardTurn (m .board) (call.Reset s) .answer) ≡ firstNumber (boardTests (m .board) (call.Reset s))
+      d = board-decided (m .board) z (call.Reset s) .number
+
+      go : (x : Bool) → inRange s ≡ x → DecidedTurn m (boardTests (m .board) (call.Reset s)) (turnOf m (millcall.Board (call.Reset s)))
+      go true e =
+          let is = reset-served m s e in
+          record {
+            number = ap (λ (t : MillTurn). answerNumber (t .answer)) is ∙ sym (ap (λ (t : Turn). answerNumber (t .answer)) (reset-done (m .board) s e)) ∙ d;
+            same = λ f. absurd (f (ap (λ (t : MillTurn). answerNumber (t .answer)) is));
+          }
+      go false e =
+          let is = reset-rejected m s e in
+          record {
+            number = ap (λ (t : MillTurn). answerNumber (t .answer)) is ∙ sym (ap (λ (t : Turn). answerNumber (t .answer)) (reset-refused (m .board) s e)) ∙ d;
+            same = λ f. ap (λ (t : MillTurn). t .mill) is;
+          }
 
   telling-decided : (p : ℕ) → DecidedTurn m (test 3 (not (ltb p 24)) ∷ test 14 (not (isEdge (m .board) p)) ∷ []) (tellingOf m p)
   unfolding tellingOf numberOf numbersOf
@@ -124,7 +142,7 @@ module _ (m : Mill) (z : Sized (m .board)) where
   decided (millcall.Board (call.End vector)) = first-test _ _ (λ g. of-board g (call.End vector))
   decided (millcall.Board (call.Advance n)) = first-test _ _ (λ g. of-board g (call.Advance n))
   decided (millcall.Board call.Deliver) = first-test _ _ (λ g. of-board g call.Deliver)
-  decided (millcall.Board call.Reset) = reset-decided
+  decided (millcall.Board (call.Reset s)) = reset-decided s
   decided (millcall.Tell p) = first-test _ _ (λ g. telling-decided p)
   decided millcall.Resume = first-test _ _ (λ g. resuming-decided)
 

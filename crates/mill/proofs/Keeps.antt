@@ -1,7 +1,7 @@
 -- Every call turns a well-formed mill into one.
 use Prim.Native.Nat.{ℕ, _≤_}
 use mathlib.Core.Path.{_≡_, refl, sym, subst}
-use mathlib.Core.Bool.{Bool, true, false, cond}
+use mathlib.Core.Bool.{Bool, true, false, cond, not, _&&_}
 use mathlib.Core.List.{List, [], _∷_}
 use native.Mathlib.Omega.{arith}
 use lib.Dec.{eqb, ltb}
@@ -10,8 +10,11 @@ use Rattle.pins.proofs.Bools.{and-both}
 use Rattle.answers.specs.declared.Answer.the-variants as answer
 use Rattle.answers.specs.declared.Refusal.the-variants as refusal
 use Rattle.board.specs.declared.Call.{Call}
+use Rattle.answers.specs.Numbers.{isDone}
+use Rattle.settings.specs.Settings.{standard}
+use Rattle.settings.proofs.Ranges.{standard-in-range}
 use Rattle.board.specs.Step.{turnOf as boardTurn}
-use Rattle.board.specs.Events.{Event, reset, delivery, end, other, isEdge, eventOf}
+use Rattle.board.specs.Events.{Event, reset, delivery, end, other, isEdge, isReset, eventOf}
 use Rattle.board.proofs.Formed.{Sized, Formed, formed-in, formed-out}
 use Rattle.board.proofs.Keeps.{keeps as board-keeps, reset as board-reset}
 use Rattle.board.proofs.Events.{event-vector}
@@ -21,7 +24,7 @@ use Rattle.mill.specs.declared.MillCall.{MillCall}
 use Rattle.mill.specs.declared.MillCall.the-variants as millcall
 use Rattle.mill.specs.declared.MillTurn.{MillTurn}
 use Rattle.mill.specs.Screen.{running, asked, taken, paused, holdsIn, lookedOf, movedOf, shownAfter}
-use Rattle.mill.specs.Mill.{resetMill, heldOf, wellFormed, turn, refused, lookedAt, tellingOf, resumingOf, servedOf, turnOf}
+use Rattle.mill.specs.Mill.{resetMill, heldOf, wellFormed, turn, refused, byBoard, lookedAt, tellingOf, resumingOf, servedOf, turnOf}
 use Rattle.mill.specs.Runs.{run}
 use Rattle.mill.proofs.Fits.{screen, Fits, untold, runs, asks, takes, pauses, fits-in, fits-out}
 use Rattle.mill.proofs.Served.{board-formed, screen-fits, well-served}
@@ -93,7 +96,7 @@ module _ (m : Mill) where
   good-out g = and-both (formed-out (m .board) (g .boarded)) (fits-out (heldOf (m .board)) (m .screen) (g .screened))
 
 pub good-reset : Good resetMill
-good-reset = record { boarded = board-reset; screened = untold }
+good-reset = record { boarded = board-reset standard standard-in-range; screened = untold }
 
 module _ (m : Mill) (g : Good m) where
   looked-good : (p : ℕ) → p ≤ 23 → Good (lookedAt m p)
@@ -119,15 +122,22 @@ module _ (m : Mill) (g : Good m) where
       go _ e (takes p v l b) = g
       go _ e (pauses p v l b) = looked-good p l
 
-  board-good : (c : Call) → Good (servedOf m (millcall.Board c) .mill)
-  unfolding servedOf
-  board-good c =
+  shown-good : (c : Call) → Good (byBoard (m .screen) c (boardTurn (m .board) c) .mill)
+  shown-good c =
       let t = boardTurn (m .board) c in
       record {
         boarded = board-keeps (m .board) (g .boarded) c;
         screened = shown-fits (heldOf (m .board)) (heldOf (t .board)) (m .screen) (eventOf c (t .answer)) (g .screened)
             (λ p v e. let h = event-vector (m .board) c p v (formed-out (m .board) (g .boarded)) e in omega arith);
       }
+
+  board-good : (c : Call) → Good (servedOf m (millcall.Board c) .mill)
+  unfolding servedOf
+  board-good c = go (isReset c && not (isDone (boardTurn (m .board) c .answer)))
+    where
+      go : (x : Bool) → Good (cond x (turn m (boardTurn (m .board) c .answer)) (byBoard (m .screen) c (boardTurn (m .board) c)) .mill)
+      go true = g
+      go false = shown-good c
 
   served-good : (c : MillCall) → Good (servedOf m c .mill)
   unfolding servedOf

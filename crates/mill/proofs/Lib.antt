@@ -1,6 +1,7 @@
 pub mod Moves
-pub mod Served
 pub mod Fits
+pub mod Rests
+pub mod Served
 pub mod Keeps
 pub mod FromReset
 pub mod Steps

@@ -13,13 +13,17 @@ use Rattle.board.specs.Step.{formed}
 use Rattle.board.specs.Step.{turnOf as boardTurn, servedOf as boardServed}
 use Rattle.board.specs.Events.{Event, delivery, deliveryOf, isReset, eventOf}
 use Rattle.board.proofs.Keeps.{served}
-use Rattle.board.proofs.Served.{turn-reset}
+use Rattle.settings.specs.declared.Settings.{Settings}
+use Rattle.settings.specs.Settings.{inRange}
+use Rattle.board.proofs.Served.{reset-done, reset-refused}
 use Rattle.mill.specs.declared.Screen.{Screen}
 use Rattle.mill.specs.declared.Mill.{Mill}
 use Rattle.mill.specs.declared.MillCall.{MillCall}
 use Rattle.mill.specs.declared.MillCall.the-variants as millcall
 use Rattle.mill.specs.Screen.{fits, shownAfter}
-use Rattle.mill.specs.Mill.{mill, resetMill, heldOf, wellFormed, turn, refused, byEvent, byBoard, tellingOf, resumingOf, servedOf, takes, turnOf}
+use Rattle.mill.specs.Mill.{mill, resetTo, heldOf, wellFormed, turn, refused, byEvent, byBoard, rejected, tellingOf, resumingOf, servedOf, takes, turnOf}
+use Rattle.mill.proofs.Fits.{fits-in}
+use Rattle.mill.proofs.Rests.{fitting-rests}
 
 module _ (m : Mill) where
   pub board-formed : wellFormed m ≡ true → formed (m .board) ≡ true
@@ -54,7 +58,27 @@ module _ (m : Mill) where
   -- a call of the board on a well-formed mill is the board's own, and the screen after it
   pub by-board : (c : Call) → wellFormed m ≡ true → turnOf m (millcall.Board c) ≡ byBoard (m .screen) c (boardTurn (m .board) c)
   unfolding servedOf
-  by-board c e = well-served (millcall.Board c) e
+  by-board (call.Read window width offset) e = well-served (millcall.Board (call.Read window width offset)) e
+  by-board (call.Write window width offset value) e = well-served (millcall.Board (call.Write window width offset value)) e
+  by-board (call.Wire pin level) e = well-served (millcall.Board (call.Wire pin level)) e
+  by-board (call.End vector) e = well-served (millcall.Board (call.End vector)) e
+  by-board (call.Advance n) e = well-served (millcall.Board (call.Advance n)) e
+  by-board call.Deliver e = well-served (millcall.Board call.Deliver) e
+  by-board (call.Reset z) e = well-served (millcall.Board (call.Reset z)) e ∙ go (inRange z) refl
+    where
+      t : Turn
+      t = boardTurn (m .board) (call.Reset z)
+
+      -- a reset that is refused leaves a fitting screen by the rule for the board's calls too
+      go : (x : Bool) → inRange z ≡ x → rejected m (call.Reset z) t (byBoard (m .screen) (call.Reset z) t) ≡ byBoard (m .screen) (call.Reset z) t
+      go true q =
+          let is = reset-done (m .board) z q in
+          ap (λ (u : Turn). rejected m (call.Reset z) u (byBoard (m .screen) (call.Reset z) u)) is ∙ ap (byBoard (m .screen) (call.Reset z)) (sym is)
+      go false q =
+          let is = reset-refused (m .board) z q in
+          ap (λ (u : Turn). rejected m (call.Reset z) u (byBoard (m .screen) (call.Reset z) u)) is
+          ∙ ap (λ (s : Screen). turn (mill (m .board) s) (answer.Refused refusal.Range)) (sym (fitting-rests (heldOf (m .board)) (m .screen) (fits-in (heldOf (m .board)) (m .screen) (screen-fits e))))
+          ∙ ap (byBoard (m .screen) (call.Reset z)) (sym is)
 
   -- what the code gives: the board's turn by what its call does, and the event that the call is
   pub by-served : (c : Call) (t : Turn) (e : Event) → wellFormed m ≡ true → t ≡ boardServed (m .board) c → e ≡ eventOf c (t .answer) → byEvent (m .screen) t e ≡ turnOf m (millcall.Board c)
@@ -71,10 +95,16 @@ module _ (m : Mill) where
   unfolding servedOf
   resume-served e = well-served millcall.Resume e
 
-  -- whatever the mill was
-  pub reset-served : turnOf m (millcall.Board call.Reset) ≡ turn resetMill answer.Done
-  unfolding turnOf servedOf shownAfter
-  reset-served = ap (byBoard (m .screen) call.Reset) (turn-reset (m .board))
+  -- a reset, whatever the mill was
+  module _ (z : Settings) where
+    pub reset-served : inRange z ≡ true → turnOf m (millcall.Board (call.Reset z)) ≡ turn (resetTo z) answer.Done
+    unfolding turnOf servedOf shownAfter
+    reset-served e = ap (λ (u : Turn). rejected m (call.Reset z) u (byBoard (m .screen) (call.Reset z) u)) (reset-done (m .board) z e)
+
+    -- "refused, it hands that state back"
+    pub reset-rejected : inRange z ≡ false → turnOf m (millcall.Board (call.Reset z)) ≡ refused m refusal.Range
+    unfolding turnOf servedOf
+    reset-rejected e = ap (λ (u : Turn). rejected m (call.Reset z) u (byBoard (m .screen) (call.Reset z) u)) (reset-refused (m .board) z e)
 
 -- a delivery step's turn by what it gave
 module _ (s : Screen) (t : Turn) where

@@ -13,12 +13,14 @@ use Rattle.board.specs.declared.Call.the-variants as call
 use Rattle.board.specs.Step.{turnOf as boardTurn}
 use Rattle.board.specs.Events.{Event, reset, delivery, end, other, isReset, eventOf}
 use Rattle.mill.specs.declared.Screen.{Screen}
+use Rattle.settings.specs.declared.Settings.{Settings}
+use Rattle.settings.specs.Settings.{inRange}
 use Rattle.mill.specs.declared.Mill.{Mill}
 use Rattle.mill.specs.declared.MillCall.{MillCall}
 use Rattle.mill.specs.declared.MillCall.the-variants as millcall
 use Rattle.mill.specs.declared.MillTurn.{MillTurn}
 use Rattle.mill.specs.Screen.{paused, blank, lookedOf, shownAfter}
-use Rattle.mill.specs.Mill.{resetMill, heldOf, isPaused}
+use Rattle.mill.specs.Mill.{resetTo, resetMill, heldOf, isPaused}
 use Rattle.mill.specs.Runs.{run}
 use Rattle.mill.specs.Story.{next, done, tells, resumes, resets, None, Told, Since, begun, stirs, unpins}
 use Rattle.mill.proofs.Served.{by-board, reset-served}
@@ -197,11 +199,10 @@ untold-blank cs n = go (history cs)
         clash (sym (t .was-done) ∙ none-first tells (millcall.Tell p) (t .after) (run resetMill (t .before)) there .0)
 
 -- "… and after a board reset it has no pin and says running."
-pub reset-blank : (cs ds : List MillCall) → None tells resetMill ds → run resetMill (cs ++ millcall.Board call.Reset ∷ ds) .screen ≡ blank
-reset-blank cs ds n =
-    let m = run resetMill cs in
-    ap (λ (x : Mill). x .screen)
-    (run-append cs (millcall.Board call.Reset ∷ ds) resetMill
-    ∙ run-cons (millcall.Board call.Reset) ds m
-    ∙ ap (λ (t : MillTurn). run (t .mill) ds) (reset-served m))
-    ∙ untold-blank ds n
+pub reset-blank : (cs ds : List MillCall) (z : Settings) → inRange z ≡ true → None tells (resetTo z) ds → run resetMill (cs ++ millcall.Board (call.Reset z) ∷ ds) .screen ≡ blank
+unfolding None
+reset-blank cs ds z e n =
+    let again = millcall.Board (call.Reset z) in
+    let after : (m : Mill) → run m (again ∷ ds) ≡ run (resetTo z) ds = λ (m : Mill). run-cons again ds m ∙ ap (λ (t : MillTurn). run (t .mill) ds) (reset-served m z e) in
+    ap (λ (x : Mill). x .screen) (run-append cs (again ∷ ds) resetMill ∙ after (run resetMill cs) ∙ sym (after resetMill))
+    ∙ untold-blank (again ∷ ds) (refl, subst (λ (t : MillTurn). None tells (t .mill) ds) (sym (reset-served resetMill z e)) n)

@@ -23,6 +23,7 @@ use Rattle.mill.specs.Screen.{running, asked, blank, isTold, holdsIn, mo
 use Rattle.mill.specs.Mill.{heldOf, turn, refused, lookedAt, tellingOf, isPaused, resumingOf, turnOf}
 use Rattle.mill.specs.Story.{next, done, did, tells, resumes, resets}
 use Rattle.mill.proofs.Fits.{screen, Fits, untold, runs, asks, takes, pauses}
+use Rattle.mill.proofs.Rests.{rests, fitting-rests}
 use Rattle.mill.proofs.Served.{by-board, tell-served, resume-served}
 use Rattle.mill.proofs.Keeps.{Good, good-out}
 
@@ -47,15 +48,6 @@ untold-same m g p e = ap (λ (t : MillTurn). t .mill) is ∙ go (ltb p 24) (isEd
 pub resumed-same : (m : Mill) → Good m → isPaused m ≡ false → next m millcall.Resume ≡ m
 unfolding resumingOf
 resumed-same m g e = ap (λ (t : MillTurn). t .mill) (resume-served m (good-out m g)) ∙ ap (λ (x : Bool). cond x (lookedAt m (m .screen .pin)) m) e
-
--- a fitting screen rests while nothing happens
-rests : (held : List ℕ) (s : Screen) → Fits held s → isTold s ≡ true → s ≡ movedOf s (holdsIn held (s .pin)) other
-unfolding movedOf
-rests held _ untold t = clash (sym t)
-rests held _ (runs p l h) t = ap (λ (x : Bool). cond x (screen p asked 0) (screen p running 0)) (sym h)
-rests held _ (asks p l) t = refl
-rests held _ (takes p v l b) t = refl
-rests held _ (pauses p v l b) t = refl
 
 -- ---- a call of the board
 
@@ -85,7 +77,7 @@ reset-event (call.End vector) a = go (isDone a)
     go false = refl
 reset-event (call.Advance n) a = refl
 reset-event call.Deliver a = delivery-resets-not a
-reset-event call.Reset a = go (isDone a)
+reset-event (call.Reset z) a = go (isDone a)
   where
     go : (x : Bool) → resetting (cond x reset other) ≡ x
     go true = refl
@@ -100,12 +92,7 @@ shown-moved s held other n t = ap (λ (x : Bool). cond x (movedOf s (holdsIn hel
 
 -- a call that did nothing leaves a fitting screen, told or not
 pub shown-rests : (m : Mill) → Good m → shownAfter (m .screen) (heldOf (m .board)) other ≡ m .screen
-unfolding shownAfter
-shown-rests m g = go (isTold (m .screen)) refl
-  where
-    go : (x : Bool) → isTold (m .screen) ≡ x → cond x (movedOf (m .screen) (holdsIn (heldOf (m .board)) (m .screen .pin)) other) (m .screen) ≡ m .screen
-    go true e = sym (rests (heldOf (m .board)) (m .screen) (g .screened) e)
-    go false e = refl
+shown-rests m g = fitting-rests (heldOf (m .board)) (m .screen) (g .screened)
 
 -- a reset that is done leaves nothing
 pub shown-reset : (s : Screen) (held : List ℕ) (c : Call) (a : Answer) → isReset c && isDone a ≡ true → shownAfter s held (eventOf c a) ≡ blank

@@ -1,7 +1,7 @@
 -- What each call does to a mill, and answers. Refusal 5 is tested first, by every call but a reset; a telling then tests 3 for a pause pin
 -- above 23, then 14 if its entry isn't an edge entry.
 use Prim.Native.Nat.{ℕ}
-use mathlib.Core.Bool.{Bool, cond, _&&_, _||_}
+use mathlib.Core.Bool.{Bool, cond, not, _&&_, _||_}
 use mathlib.Core.List.{List}
 use lib.Dec.{ltb, eqb}
 use Rattle.answers.specs.declared.Answer.{Answer}
@@ -11,7 +11,11 @@ use Rattle.answers.specs.declared.Refusal.the-variants as refusal
 use Rattle.board.specs.declared.Board.{Board}
 use Rattle.board.specs.declared.Call.{Call}
 use Rattle.board.specs.declared.Turn.{Turn}
-use Rattle.board.specs.Step.{formed, resetBoard}
+use Rattle.answers.specs.Numbers.{isDone}
+use Rattle.settings.specs.declared.Settings.{Settings}
+use Rattle.settings.specs.Settings.{standard}
+use Rattle.board.specs.State.{resetTo as boardReset}
+use Rattle.board.specs.Step.{formed}
 use Rattle.board.specs.Step.{turnOf as boardTurn}
 use Rattle.board.specs.Events.{Event, holds, isEdge, isReset, eventOf}
 use Rattle.mill.specs.declared.Screen.{Screen}
@@ -24,8 +28,12 @@ use Rattle.mill.specs.Screen.{paused, blank, lookedOf, shownAfter, fits}
 abbrev pub mill : Board → Screen → Mill
 mill b s = record { board = b; screen = s }
 
+abbrev pub resetTo : Settings → Mill
+resetTo z = mill (boardReset z) blank
+
+-- without settings: as in document 01
 abbrev pub resetMill : Mill
-resetMill = mill resetBoard blank
+resetMill = resetTo standard
 
 -- the edges that a board holds, pin by pin
 abbrev pub heldOf : Board → List ℕ
@@ -66,9 +74,13 @@ isPaused m = eqb (m .screen .word) paused
 unfoldable pub resumingOf : Mill → MillTurn
 resumingOf m = turn (cond (isPaused m) (lookedAt m (m .screen .pin)) m) answer.Done
 
+-- a reset that is refused, which may come to any mill, hands that mill back
+abbrev pub rejected : Mill → Call → Turn → MillTurn → MillTurn
+rejected m c t done = cond (isReset c && not (isDone (t .answer))) (turn m (t .answer)) done
+
 -- what a call does to a mill that it takes
 unfoldable pub servedOf : Mill → MillCall → MillTurn
-servedOf m (millcall.Board c) = byBoard (m .screen) c (boardTurn (m .board) c)
+servedOf m (millcall.Board c) = let t = boardTurn (m .board) c in rejected m c t (byBoard (m .screen) c t)
 servedOf m (millcall.Tell pin) = tellingOf m pin
 servedOf m millcall.Resume = resumingOf m
 

@@ -14,13 +14,16 @@ use Rattle.entries.specs.Table.{entriesOk, levelsOk, firstEligible, wired, puls
 use Rattle.controller.specs.State.{wellFormed as controllerFormed}
 use Rattle.controller.specs.Window.{dataRead, dataWritten, readingOf as controllerReading, writingOf as controllerWriting}
 use Rattle.controller.specs.Steps.{deliveringOf}
+use Rattle.settings.specs.declared.Settings.{Settings}
+use Rattle.settings.specs.Settings.{vendorOk, periodOk, maskOk, idOk, inRange}
+use Rattle.timer.specs.Mask.{inMask, lowest}
 use Rattle.timer.specs.State.{resetTimer}
 use Rattle.timer.specs.Registers.{configurationOf, configuredOf, setOf, clearedOf}
 use Rattle.timer.specs.Tick.{meets, firing, pulsing, driving}
 use Rattle.timer.specs.Formed.{flagsFit, narrowFits, timerFormed}
-use Rattle.timers.specs.State.{resetTimers}
-use Rattle.timers.specs.Formed.{wellFormed as timersFormed}
-use Rattle.timers.specs.Registers.{statusOf, timerRegister, registerOf, timerWritten, writtenOf, shownOf, storedOf}
+use Rattle.timers.specs.State.{resetTo as timersReset}
+use Rattle.timers.specs.Formed.{settingsFit, wellFormed as timersFormed}
+use Rattle.timers.specs.Registers.{capabilitiesOf, statusOf, timerRegister, registerOf, timerWritten, writtenOf, shownOf, storedOf}
 use Rattle.timers.specs.Tick.{countedOf, matchesOf, firedOf, drivesOf, pulsesOf, routeOf}
 use Rattle.timers.specs.Call.{readingOf as timersReading, writingOf as timersWriting}
 use Rattle.board.specs.declared.Call.{Call}
@@ -28,7 +31,7 @@ use Rattle.board.specs.declared.Call.the-variants as call
 use Rattle.board.specs.Wires.{highAt, wiresOf, joined}
 use Rattle.board.specs.Tick.{effect, turned, upTo, tick, firesIn, ticks, firings}
 use Rattle.board.specs.Formed.{wellFormed as boardFormed}
-use Rattle.board.specs.Step.{readingOf, writingOf, wiringOf, endingOf, advancingOf, deliveringOnBoard, servedOf as boardServed, turnOf as boardTurn}
+use Rattle.board.specs.Step.{plainReset, readingOf, writingOf, wiringOf, endingOf, advancingOf, deliveringOnBoard, resettingOf, servedOf as boardServed, turnOf as boardTurn}
 use Rattle.board.specs.Accesses.{select, put, lowWord, set}
 use Rattle.mill.specs.declared.Mill.{Mill}
 use Rattle.mill.specs.declared.MillCall.{MillCall}
@@ -80,6 +83,10 @@ told p w = says (millcall.Tell p) ok w
 abbrev resumed : ℕ → Said
 resumed w = says millcall.Resume ok w
 
+-- a tick of no length
+abbrev unfit : Settings
+unfit = record { vendor = 0x8086; period = 0; mask0 = 1; mask1 = 1; mask2 = 1; id = 0 }
+
 pub sheet : List (List Said)
 unfolding numberOf
 sheet =
@@ -111,7 +118,10 @@ sheet =
     ∷ (resumed running
     ∷ told 1 running ∷ resumed running ∷ entry 1 0x21 running ++ wire 1 1 asked ∷ resumed asked ∷ ends 0x21 asked ∷ gives 1 0x21 taken ∷ resumed taken ∷ [])
     -- P9 after a board reset there is no pin
-    ∷ (told 1 running ∷ entry 1 0x21 running ++ wire 1 1 asked ∷ does call.Reset running ∷ entry 1 0x21 running ++ wire 1 1 running ∷ gives 1 0x21 running ∷ [])
+    ∷ (told 1 running ∷ entry 1 0x21 running ++ wire 1 1 asked ∷ does plainReset running ∷ entry 1 0x21 running ++ wire 1 1 running ∷ gives 1 0x21 running ∷ [])
+    -- … and after one that is refused, all is as it was
+    ∷ (told 1 running ∷ entry 1 0x21 running ++ wire 1 1 asked ∷ says (millcall.Board (call.Reset unfit)) (refused 10 refusal.Range refl) asked ∷ gives 1 0x21 taken ∷ ends 0x21 paused
+    ∷ says (millcall.Board (call.Reset unfit)) (refused 10 refusal.Range refl) paused ∷ resumed running ∷ [])
     -- P10 telling again, in any word: the other pin, and its own edge
     ∷ (entry 3 0x33 running ++ wire 3 1 running ∷ entry 1 0x21 running ++ told 1 running ∷ wire 1 1 asked ∷ gives 1 0x21 taken ∷ told 3 asked ∷ ends 0x21 asked ∷ gives 3 0x33 taken
     ∷ ends 0x33 paused ∷ told 1 running ∷ [])
@@ -127,5 +137,5 @@ sheet =
 
 -- the statement computes, so it opens every definition down to the ground
 pub shows : map (λ (l : List Said). shownAlong resetMill (map (λ (s : Said). s .call) l)) sheet ≡ map (λ (l : List Said). map (λ (s : Said). s .shown) l) sheet
-unfolding sheet shownAlong tab firstFrom allFrom modeOf remoteOf levelOf maskedOf withRemote withoutRemote writable written shown wordOk asserted makesEdge heldAfter eligible endedWord pinOk entriesOk levelsOk firstEligible wired pulsed ended takenFrom lowShown lowWritten controllerFormed dataRead dataWritten controllerReading controllerWriting deliveringOf resetTimer configurationOf configuredOf setOf clearedOf meets firing pulsing driving flagsFit narrowFits timerFormed resetTimers timersFormed statusOf timerRegister registerOf timerWritten writtenOf shownOf storedOf countedOf matchesOf firedOf drivesOf pulsesOf routeOf timersReading timersWriting highAt wiresOf joined effect turned upTo tick firesIn ticks firings boardFormed readingOf writingOf wiringOf endingOf advancingOf deliveringOnBoard boardServed boardTurn lookedOf movedOf shownAfter fits wellFormed tellingOf resumingOf servedOf turnOf
+unfolding sheet shownAlong tab firstFrom allFrom modeOf remoteOf levelOf maskedOf withRemote withoutRemote writable written shown wordOk asserted makesEdge heldAfter eligible endedWord pinOk entriesOk levelsOk firstEligible wired pulsed ended takenFrom lowShown lowWritten controllerFormed dataRead dataWritten controllerReading controllerWriting deliveringOf resetTimer configurationOf configuredOf setOf clearedOf meets firing pulsing driving flagsFit narrowFits timerFormed lowest inMask vendorOk periodOk maskOk inRange idOk timersReset settingsFit timersFormed capabilitiesOf statusOf timerRegister registerOf timerWritten writtenOf shownOf storedOf countedOf matchesOf firedOf drivesOf pulsesOf routeOf timersReading timersWriting highAt wiresOf joined effect turned upTo tick firesIn ticks firings boardFormed readingOf writingOf wiringOf endingOf advancingOf deliveringOnBoard resettingOf boardServed boardTurn lookedOf movedOf shownAfter fits wellFormed tellingOf resumingOf servedOf turnOf
 shows = refl

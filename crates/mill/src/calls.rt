@@ -1,9 +1,10 @@
-// Every call of a mill: the mill is tested once, unless the call is a reset, then the call is served.
+// Every call of a mill: the mill is tested once, unless the call is a reset, which tests its settings; then the call is
+// served.
 ghost use mathlib.Core.Path.{_≡_};
 ghost use Rattle.board.specs.declared.Call.the-variants as call;
 ghost use Rattle.board.specs.Events.{other, end, deliveryOf};
 ghost use Rattle.mill.specs.declared.MillCall.the-variants as millcall;
-ghost use Rattle.mill.specs.Mill.{mill, resetMill, wellFormed, refused, byEvent, turnOf};
+ghost use Rattle.mill.specs.Mill.{mill, resetTo, resetMill, wellFormed, refused, byEvent, turnOf};
 use crate::Mill;
 use crate::MillCall;
 use crate::MillTurn;
@@ -13,6 +14,7 @@ use answers::Refusal;
 use board::Board;
 use board::Call;
 use board::Turn;
+use settings::Settings;
 
 // The screen after a call that was neither a delivery step nor an end of interrupt.
 fn seen(screen: Screen, turn: Turn) -> MillTurn
@@ -77,13 +79,21 @@ fn ended(screen: Screen, turn: Turn, vector: u8) -> MillTurn
 }
 
 impl Mill {
+    // With settings: what is out of range is kept as it is, and the mill is then not well formed. `renew` tests it.
+    pub fn reset_to(settings: Settings) -> Mill
+        ensures { λ r. ⌜ r ≡ resetTo settings ⌝ }
+    {
+        Mill {
+            board: Board::reset_to(settings),
+            screen: Screen::blank(),
+        }
+    }
+
+    // As in document 01.
     pub fn reset() -> Mill
         ensures { λ r. ⌜ r ≡ resetMill ⌝ }
     {
-        Mill {
-            board: Board::reset(),
-            screen: Screen::blank(),
-        }
+        Mill::reset_to(Settings::standard())
     }
 
     pub fn well_formed(self) -> bool
@@ -174,13 +184,17 @@ impl Mill {
         }
     }
 
-    // Whatever the mill was.
-    pub fn renew(self) -> MillTurn
-        ensures { λ r. ⌜ r ≡ turnOf self (millcall.Board call.Reset) ⌝ }
+    // A reset, whatever the mill was; settings out of range are 10, and the mill stays.
+    pub fn renew(self, settings: Settings) -> MillTurn
+        ensures { λ r. ⌜ r ≡ turnOf self (millcall.Board (call.Reset settings)) ⌝ }
     {
-        MillTurn {
-            mill: Mill::reset(),
-            answer: Answer::Done,
+        if settings.in_range() {
+            MillTurn {
+                mill: Mill::reset_to(settings),
+                answer: Answer::Done,
+            }
+        } else {
+            self.refused(Refusal::Range)
         }
     }
 
@@ -203,7 +217,7 @@ impl Mill {
             Call::End { vector } => self.end(vector),
             Call::Advance { ticks } => self.advance(ticks),
             Call::Deliver => self.deliver(),
-            Call::Reset => self.renew(),
+            Call::Reset { settings } => self.renew(settings),
         }
     }
 

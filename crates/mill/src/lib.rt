@@ -21,7 +21,7 @@ pub struct Screen {
     pub vector: u16,
 }
 
-// By value, 296 bytes, none of them padding.
+// By value, 312 bytes, none of them padding.
 #[repr(C)]
 pub struct Mill {
     pub board: Board,

@@ -57,16 +57,16 @@ module _ {M : Type 1} {𝓤 : URA M} {H : Heap 𝓤} {A : Atoms 𝓤} {K : Type 
 
 -- where the low words, the pins' levels, their held edges and the outside levels of a board at o lie
 abbrev pub low-at : ℕ → ℕ
-low-at o = o + 88 + 8 + 0
+low-at o = o + 104 + 8 + 0
 
 abbrev pub level-at : ℕ → ℕ
-level-at o = o + 88 + 8 + 120
+level-at o = o + 104 + 8 + 120
 
 abbrev pub held-at : ℕ → ℕ
-held-at o = o + 88 + 8 + 144
+held-at o = o + 104 + 8 + 144
 
 abbrev pub outside-at : ℕ → ℕ
-outside-at o = o + 264
+outside-at o = o + 280
 
 -- the rows themselves
 abbrev words : ℕ → ℕ → List ℕ → Fml
@@ -119,22 +119,22 @@ module _ {M : Type 1} (𝓤 : URA M) (H : Heap 𝓤) (A : Atoms 𝓤) (W : Given
     don w b o xs = subst (λ (ys : List ℕ). ent 𝓤 ⟦ Row w b o ys ⟧ ⟦ Row w b o (same xs) ⟧) (map-id xs) (id⊢ 𝓤 _)
 
     abbrev dests : List ℕ → Fml
-    dests = Row w8 b (o + 88 + 8 + 96)
+    dests = Row w8 b (o + 104 + 8 + 96)
 
     abbrev timers : Fml
     timers = fat fullShare S′.mir b (o + 0) (LL.val S.the-type S′.the-laws (h .timers))
 
     abbrev controller : Controller → Fml
-    controller c = fat fullShare C′.mir b (o + 88) (LL.val C.the-type C′.the-laws c)
+    controller c = fat fullShare C′.mir b (o + 104) (LL.val C.the-type C′.the-laws c)
 
     abbrev id : ℕ → Fml
-    id n = fat fullShare (tyInt w32) b (o + 88 + 0) (vint w32 n)
+    id n = fat fullShare (tyInt w32) b (o + 104 + 0) (vint w32 n)
 
     abbrev index : ℕ → Fml
-    index n = fat fullShare (tyInt w32) b (o + 88 + 4) (vint w32 n)
+    index n = fat fullShare (tyInt w32) b (o + 104 + 4) (vint w32 n)
 
     abbrev entries : Entries → Fml
-    entries x = fat fullShare E′.mir b (o + 88 + 8) (LL.val E.the-type E′.the-laws x)
+    entries x = fat fullShare E′.mir b (o + 104 + 8) (LL.val E.the-type E′.the-laws x)
 
     apart : ent 𝓤 ⟦ fat fullShare T′.mir b o (mach h) ⟧ (⟦ words b o (e .low) ⟧ ∗ ⟦ levels b o (e .level) ⟧ ∗ ⟦ edges b o (e .held) ⟧ ∗ ⟦ outsides b o (h .outside) ⟧ ∗ AllBack h b o)
     apart =

@@ -1,4 +1,5 @@
 pub mod Decided
+pub mod Reset
 mod Served
 mod Tested
 mod Rows

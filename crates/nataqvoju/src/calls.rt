@@ -7,13 +7,14 @@ ghost use Prim.Native.Nat.{_%_, _^_};
 ghost use Rattle.answers.specs.declared.Answer.the-variants as answer;
 ghost use Rattle.answers.specs.declared.Refusal.the-variants as refusal;
 ghost use Rattle.answers.specs.Numbers.{numbersOf};
-ghost use Rattle.board.specs.declared.Call.the-variants as call;
 ghost use Rattle.board.specs.Formed.{wellFormed};
 ghost use Rattle.board.specs.declared.Board.{Board as AnyBoard};
 ghost use Rattle.board.specs.State.{withEntry, withWires};
 ghost use Rattle.board.specs.At.{lowWriteAt};
-ghost use Rattle.board.specs.Step.{readingOf, writingOf, wiringOf, endingOf, advancingOf, deliveringOnBoard, turnOf};
+ghost use Rattle.board.specs.Step.{readingOf, writingOf, wiringOf, endingOf, advancingOf, deliveringOnBoard};
+ghost use Rattle.board.specs.Step.{plainReset, turnOf};
 ghost use Rattle.nataqvoju.specs.Lent.{outOf, Gives};
+ghost use Rattle.nataqvoju.specs.Reset.{resetWith, resetBy};
 use crate::Out;
 use answers::Answer;
 use answers::Numbers;
@@ -21,6 +22,8 @@ use answers::Refusal;
 use board::Board;
 use board::Turn;
 use controller::Controller;
+use settings::Reading;
+use settings::Settings;
 
 fn out(turn: Turn) -> Out
     ensures { λ r. ⌜ r ≡ outOf turn ⌝ }
@@ -33,14 +36,35 @@ fn out(turn: Turn) -> Out
     }
 }
 
-// Whatever the board was.
+// As in document 01, whatever the board was.
 pub fn reset(b: Board) -> Out
-    ensures { λ r. ⌜ r ≡ outOf (turnOf b call.Reset) ⌝ }
+    ensures { λ r. ⌜ r ≡ outOf (turnOf b plainReset) ⌝ }
 {
     Out {
         board: Board::reset(),
         numbers: Answer::Done.numbers(),
     }
+}
+
+fn reset_with(b: Board, reading: Reading) -> Turn
+    ensures { λ r. ⌜ r ≡ resetWith b reading ⌝ }
+{
+    let settings = reading.settings;
+    let answer = reading.answer;
+    match answer {
+        Answer::Refused(refusal) => Turn {
+            board: b,
+            answer: Answer::Refused(refusal),
+        },
+        _ => b.resetting(settings),
+    }
+}
+
+// Whatever the board was, by a lent settings record. The reader's refusals come first, and leave the board.
+pub fn reset_settings(b: Board, bytes: &[u8]) -> Out
+    ensures { λ r. ⌜ r ≡ outOf (resetBy b (now (bytes .entry))) ⌝ }
+{
+    out(reset_with(b, Settings::read(bytes)))
 }
 
 // A read leaves the board, so only the numbers come back.

@@ -1,13 +1,15 @@
 // The monitor's entry: the board lent by the monitor and changed where it lies. The answers are those of the board's
 // own calls, as numbers. Every byte pattern of the lent memory is a board: one that is not well formed gets 5 and stays
-// as it is. A call that changes one pin lends on the arrays that it changes; the others go by a copy that is stored back.
+// as it is, unless the call is a reset. A call that changes one pin lends on the arrays that it changes; the others go
+// by a copy that is stored back.
 mod calls;
 
 ghost use mathlib.Core.Path.{_≡_};
 ghost use Rattle.board.specs.declared.Call.the-variants as call;
 ghost use Rattle.board.specs.Formed.{wellFormed};
-ghost use Rattle.board.specs.Step.{turnOf};
+ghost use Rattle.board.specs.Step.{plainReset, turnOf};
 ghost use Rattle.nataqvoju.specs.Lent.{Gives};
+ghost use Rattle.nataqvoju.specs.Reset.{resetBy};
 use answers::Numbers;
 use board::Board;
 use entries::Entries;
@@ -25,13 +27,24 @@ fn formed(b: &Board) -> bool
     s.well_formed()
 }
 
-// Whatever was there.
+// As in document 01, whatever was there.
 #[no_mangle]
 pub extern "C" fn nataqvoju_reset(b: &mut Board) -> Numbers
-    ensures { λ r. ⌜ Gives (turnOf (now (b .entry)) call.Reset) (now (b .exit)) r ⌝ }
+    ensures { λ r. ⌜ Gives (turnOf (now (b .entry)) plainReset) (now (b .exit)) r ⌝ }
 {
     let s = *b;
     let o = calls::reset(s);
+    *b = o.board;
+    o.numbers
+}
+
+// By a lent settings record, whatever was there. A record that the reader refuses leaves the board.
+#[no_mangle]
+pub extern "C" fn nataqvoju_reset_settings(b: &mut Board, bytes: &[u8]) -> Numbers
+    ensures { λ r. ⌜ Gives (resetBy (now (b .entry)) (now (bytes .entry))) (now (b .exit)) r ⌝ }
+{
+    let s = *b;
+    let o = calls::reset_settings(s, bytes);
     *b = o.board;
     o.numbers
 }

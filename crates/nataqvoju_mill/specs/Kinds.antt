@@ -4,6 +4,7 @@ use mathlib.Core.Bool.{cond}
 use lib.Dec.{eqb}
 use Rattle.answers.specs.declared.Refusal.the-variants as refusal
 use Rattle.board.specs.declared.Call.the-variants as call
+use Rattle.board.specs.Step.{plainReset}
 use Rattle.mill.specs.declared.Mill.{Mill}
 use Rattle.mill.specs.declared.MillCall.the-variants as millcall
 use Rattle.mill.specs.declared.MillTurn.{MillTurn}
@@ -22,7 +23,7 @@ calledOf m kind p q r s =
     (cond (eqb kind 4) (turnOf m (millcall.Board (call.End (p % 2 ^ 8))))
     (cond (eqb kind 5) (turnOf m (millcall.Board (call.Advance (p % 2 ^ 32))))
     (cond (eqb kind 6) (turnOf m (millcall.Board call.Deliver))
-    (cond (eqb kind 7) (turnOf m (millcall.Board call.Reset))
+    (cond (eqb kind 7) (turnOf m (millcall.Board plainReset))
     (cond (eqb kind 8) (turnOf m (millcall.Tell p))
     (cond (eqb kind 9) (turnOf m millcall.Resume)
     (unknownOf m)))))))))

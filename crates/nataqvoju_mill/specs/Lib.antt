@@ -1,2 +1,3 @@
 pub mod Lent
 pub mod Kinds
+pub mod Reset

@@ -1,11 +1,16 @@
-// A mill's calls by value, each by the number of its kind: a log's kinds, then those that no log has.
+// A mill's calls by value, each by the number of its kind: a log's kinds, then those that no log has. A reset by a lent
+// settings record is a call of its own.
 ghost use mathlib.Core.Path.{_≡_};
 ghost use Rattle.nataqvoju_mill.specs.Lent.{outOf};
 ghost use Rattle.nataqvoju_mill.specs.Kinds.{unknownOf, calledOf};
+ghost use Rattle.nataqvoju_mill.specs.Reset.{resetWith, resetBy};
 use crate::Out;
+use answers::Answer;
 use answers::Refusal;
 use mill::Mill;
 use mill::MillTurn;
+use settings::Reading;
+use settings::Settings;
 
 const READ: u64 = 1;
 
@@ -76,7 +81,25 @@ pub fn call(m: Mill, kind: u64, p: u64, q: u64, r: u64, s: u64) -> Out
         return out(m.tell(p));
     }
     if kind == RESET {
-        return out(m.renew());
+        return out(m.renew(Settings::standard()));
     }
     out(unknown(m))
+}
+
+fn reset_with(m: Mill, reading: Reading) -> MillTurn
+    ensures { λ r. ⌜ r ≡ resetWith m reading ⌝ }
+{
+    let settings = reading.settings;
+    let answer = reading.answer;
+    match answer {
+        Answer::Refused(refusal) => m.refused(refusal),
+        _ => m.renew(settings),
+    }
+}
+
+// Whatever the mill was. The reader's refusals come first, and leave the mill.
+pub fn reset_settings(m: Mill, bytes: &[u8]) -> Out
+    ensures { λ r. ⌜ r ≡ outOf (resetBy m (now (bytes .entry))) ⌝ }
+{
+    out(reset_with(m, Settings::read(bytes)))
 }

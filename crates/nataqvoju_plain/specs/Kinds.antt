@@ -8,7 +8,7 @@ use Rattle.board.specs.declared.Call.the-variants as call
 use Rattle.board.specs.declared.Turn.{Turn}
 use Rattle.board.specs.Formed.{wellFormed}
 use Rattle.board.specs.State.{refused}
-use Rattle.board.specs.Step.{turnOf}
+use Rattle.board.specs.Step.{plainReset, turnOf}
 
 -- refusal 5 is tested first; an unknown kind is 7
 abbrev pub unknownOf : Board → Turn
@@ -23,5 +23,5 @@ calledOf b kind p q r s =
     (cond (eqb kind 4) (turnOf b (call.End (p % 2 ^ 8)))
     (cond (eqb kind 5) (turnOf b (call.Advance (p % 2 ^ 32)))
     (cond (eqb kind 6) (turnOf b call.Deliver)
-    (cond (eqb kind 7) (turnOf b call.Reset)
+    (cond (eqb kind 7) (turnOf b plainReset)
     (unknownOf b)))))))

@@ -9,6 +9,7 @@ use answers::Refusal;
 use board::Board;
 use board::Call;
 use board::Turn;
+use settings::Settings;
 
 const READ: u64 = 1;
 
@@ -94,7 +95,8 @@ pub fn call(b: Board, kind: u64, p: u64, q: u64, r: u64, s: u64) -> Out
         return out(plain::step(b, Call::Deliver));
     }
     if kind == RESET {
-        return out(plain::step(b, Call::Reset));
+        let settings = Settings::standard();
+        return out(plain::step(b, Call::Reset { settings }));
     }
     out(unknown(b))
 }

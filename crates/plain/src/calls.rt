@@ -1,13 +1,14 @@
-// Every call. "Refusal 5 is tested first"; a reset takes any state.
+// Every call. "Refusal 5 is tested first"; "A reset takes any state and tests only 10, never 5; …" (K6)
 ghost use mathlib.Core.Path.{_≡_};
 ghost use Rattle.board.specs.declared.Call.the-variants as call;
+ghost use Rattle.settings.specs.Settings.{inRange};
 ghost use Rattle.controller.specs.Window.{readingOf as controllerReading, writingOf as controllerWriting};
 ghost use Rattle.timers.specs.Call.{readingOf as timersReading, writingOf as timersWriting};
-ghost use Rattle.board.specs.State.{resetBoard, turn};
+ghost use Rattle.board.specs.State.{resetTo, turn};
 ghost use Rattle.board.specs.State.{refused as refusedTurn};
 ghost use Rattle.board.specs.Step.{byController, byTimers};
 ghost use Rattle.board.specs.Step.{takes as takenBy};
-ghost use Rattle.board.specs.Step.{readingOf, writingOf, wiringOf, endingOf, deliveringOnBoard, servedOf, turnOf};
+ghost use Rattle.board.specs.Step.{readingOf, writingOf, wiringOf, endingOf, deliveringOnBoard, resettingOf, servedOf, turnOf};
 use crate::formed::well_formed;
 use crate::tick::advancing;
 use crate::wires::joined;
@@ -16,6 +17,7 @@ use answers::Refusal;
 use board::Board;
 use board::Call;
 use board::Turn;
+use settings::Settings;
 
 // A refusal is the answer, and the board stays: "same state".
 fn refused(b: Board, refusal: Refusal) -> Turn
@@ -158,15 +160,40 @@ fn delivering(b: Board) -> Turn
     }
 }
 
-// The controller: "Reset: every low word 0x00010000, high 0, id 0, index 0, outside wires low." The timers: "Reset:
-// everything writable 0, except comparators, which are 2^64 - 1."
-fn reset() -> Board
-    ensures { λ r. ⌜ r ≡ resetBoard ⌝ }
+// "The period is 1 to 100,000,000, each mask is nonzero and below 2^24, the id is at most 15." (K6)
+fn in_range(settings: Settings) -> bool
+    ensures { λ r. ⌜ r ≡ inRange settings ⌝ }
+{
+    let period = (1 <= settings.period) & (settings.period <= 100000000);
+    let masks = plain_timers::mask_ok(settings.mask0)
+        & (plain_timers::mask_ok(settings.mask1)
+            & (plain_timers::mask_ok(settings.mask2) & (settings.id <= 15)));
+    period & masks
+}
+
+// The controller: "Reset: every low word 0x00010000, high 0, …, index 0, outside wires low." The timers: "Reset:
+// everything writable 0, except comparators, which are 2^64 - 1." The rest is the settings' (K6).
+fn reset(settings: Settings) -> Board
+    ensures { λ r. ⌜ r ≡ resetTo settings ⌝ }
 {
     Board {
-        timers: plain_timers::reset(),
-        controller: plain_controller::reset(),
+        timers: plain_timers::reset(settings),
+        controller: plain_controller::reset(settings.id),
         outside: [0; 24],
+    }
+}
+
+// "A reset … tests only 10, never 5; refused, it hands that state back." (K6)
+fn resetting(b: Board, settings: Settings) -> Turn
+    ensures { λ r. ⌜ r ≡ resettingOf b settings ⌝ }
+{
+    if in_range(settings) {
+        Turn {
+            board: reset(settings),
+            answer: Answer::Done,
+        }
+    } else {
+        refused(b, Refusal::Range)
     }
 }
 
@@ -190,10 +217,7 @@ fn served(b: Board, call: Call) -> Turn
         Call::End { vector } => ending(b, vector),
         Call::Advance { ticks } => advancing(b, ticks),
         Call::Deliver => delivering(b),
-        Call::Reset => Turn {
-            board: reset(),
-            answer: Answer::Done,
-        },
+        Call::Reset { settings } => resetting(b, settings),
     }
 }
 
@@ -217,7 +241,7 @@ fn takes(b: Board, call: Call) -> bool
         Call::End { vector } => well_formed(b),
         Call::Advance { ticks } => well_formed(b),
         Call::Deliver => well_formed(b),
-        Call::Reset => true,
+        Call::Reset { settings } => true,
     }
 }
 

@@ -4,7 +4,7 @@ ghost use mathlib.Core.Path.{_≡_};
 ghost use Prim.Native.Nat.{_<_, _/_, _%_, _^_};
 ghost use Rattle.answers.specs.declared.Answer.the-variants as answer;
 ghost use Rattle.entries.specs.Table.{lowShown, highShown, lowWritten, highWritten};
-ghost use Rattle.controller.specs.State.{resetController, withId, withIndex, turn};
+ghost use Rattle.controller.specs.State.{resetTo, withId, withIndex, turn};
 ghost use Rattle.controller.specs.State.{refused as refusedTurn};
 ghost use Rattle.controller.specs.Window.{idShown, entryRead, dataRead, entryWritten, dataWritten, readingOf, writingOf};
 use crate::pin::eligible;
@@ -17,12 +17,12 @@ use controller::Controller;
 use controller::Turn;
 use entries::Entries;
 
-// "Reset: every low word 0x00010000, high 0, id 0, index 0, outside wires low."
-pub fn reset() -> Controller
-    ensures { λ r. ⌜ r ≡ resetController ⌝ }
+// "Reset: every low word 0x00010000, high 0, …, index 0, outside wires low." The id is the settings' (K6).
+pub fn reset(id: u8) -> Controller
+    ensures { λ r. ⌜ r ≡ resetTo id ⌝ }
 {
     Controller {
-        id: 0,
+        id: id as u32,
         index: 0,
         entries: Entries {
             low: [0x10000; 24],

@@ -3,10 +3,12 @@
 // definitions in the promises, are the same.
 mod formed;
 mod in_halves;
+mod mask;
 mod registers;
 mod tick;
 mod window;
 
+pub use formed::mask_ok;
 pub use formed::well_formed;
 pub use tick::driven;
 pub use tick::fired;

@@ -2,11 +2,13 @@
 ghost use mathlib.Core.Path.{_≡_};
 ghost use Prim.Native.Nat.{_/_, _%_, _^_, _≤_};
 ghost use mathlib.Core.Bool.{cond};
-ghost use lib.Dec.{ltb, eqb};
+ghost use lib.Dec.{eqb};
 ghost use mir.Val.{boolByte};
+ghost use Rattle.timer.specs.Mask.{inMask};
 ghost use Rattle.timer.specs.State.{flag};
 ghost use Rattle.timer.specs.State.{reduced as reducedTo};
 ghost use Rattle.timer.specs.Registers.{configurationOf, configuredOf, setOf, comparedOf, clearedOf};
+use crate::mask::has;
 use timer::Timer;
 
 // A flag as a number.
@@ -18,11 +20,11 @@ pub(crate) fn one(flag: u8) -> u64
 }
 
 // "Writable: 1 level type, 2 interrupt enable, 3 periodic, 6 set-comparator …, 8 32-bit mode, 13:9 route. Bits 5 and 4
-// read 1; bits 63:32 read 0x00FFFFFF; the rest read 0."
-pub(crate) fn configuration(t: Timer) -> u64
-    ensures { λ r. ⌜ r ≡ configurationOf t ⌝ }
+// read 1; …; the rest read 0." Bits 63:32 read the mask (K6).
+pub(crate) fn configuration(mask: u32, t: Timer) -> u64
+    ensures { λ r. ⌜ r ≡ configurationOf mask t ⌝ }
 {
-    0x00FFFFFF00000000
+    mask as u64 * 4294967296
         + (t.route as u64 * 512
             + (one(t.narrow) * 256
                 + (one(t.set_comparator) * 64
@@ -37,13 +39,13 @@ fn reduced(narrow: bool, x: u64) -> u64
     if narrow { x % 4294967296 } else { x }
 }
 
-// "A route above 23 keeps the old route; the other bits are taken."
-fn routed(value: u64, old: u16) -> u16
-    ensures { λ r. ⌜ r ≡ cond (ltb (value / 2 ^ 9 % 2 ^ 5) 24) (value / 2 ^ 9 % 2 ^ 5) old ⌝ }
+// "… a written route outside the mask keeps the old one" (K6); "the other bits are taken."
+fn routed(mask: u32, value: u64, old: u16) -> u16
+    ensures { λ r. ⌜ r ≡ cond (inMask mask (value / 2 ^ 9 % 2 ^ 5)) (value / 2 ^ 9 % 2 ^ 5) old ⌝ }
 {
-    let route = value / 512 % 32;
-    if route < 24 {
-        return route as u16;
+    let route = (value / 512 % 32) as u16;
+    if has(mask, route) {
+        return route;
     }
     old
 }
@@ -66,14 +68,14 @@ fn status_kept(value: u64, status: u8) -> u8
 }
 
 // A write to its configuration register. "Writing 32-bit mode reduces comparator and period modulo 2^32."
-pub(crate) fn configured(t: Timer, value: u64) -> Timer
-    ensures { λ r. ⌜ r ≡ configuredOf t value ⌝ }
+pub(crate) fn configured(mask: u32, t: Timer, value: u64) -> Timer
+    ensures { λ r. ⌜ r ≡ configuredOf mask t value ⌝ }
 {
     let narrow = value / 256 % 2 == 1;
     Timer {
         comparator: reduced(narrow, t.comparator),
         period: reduced(narrow, t.period),
-        route: routed(value, t.route),
+        route: routed(mask, value, t.route),
         level_type: (value / 2 % 2) as u8,
         interrupt: (value / 4 % 2) as u8,
         periodic: (value / 8 % 2) as u8,

@@ -4,14 +4,15 @@ ghost use Prim.Native.Nat.{_<_};
 ghost use mathlib.Core.Bool.{cond};
 ghost use Rattle.timer.specs.State.{resetTimer};
 ghost use Rattle.timer.specs.Registers.{bit};
-ghost use Rattle.timers.specs.State.{isEnabled, withCounter, withEnabled, withTimers, resetTimers};
+ghost use Rattle.timers.specs.State.{isEnabled, withCounter, withEnabled, withTimers, resetTo};
 ghost use Rattle.timers.specs.State.{withTimer as replacing};
-ghost use Rattle.timers.specs.Registers.{clearedBy, statusOf, registerOf, writtenOf};
+ghost use Rattle.timers.specs.Registers.{clearedBy, capabilitiesOf, statusOf, registerOf, writtenOf};
 ghost use Rattle.timers.specs.Registers.{aligned as alignedTo};
 ghost use Rattle.timers.specs.Call.{readingOf, writingOf};
 ghost use Rattle.timers.specs.Call.{refused as refusedTurn};
 use crate::in_halves::shown;
 use crate::in_halves::stored;
+use crate::mask::lowest;
 use crate::registers::cleared;
 use crate::registers::compared;
 use crate::registers::configuration;
@@ -19,18 +20,20 @@ use crate::registers::configured;
 use crate::registers::one;
 use answers::Answer;
 use answers::Refusal;
+use settings::Settings;
 use timer::Timer;
 use timers::Timers;
 use timers::Turn;
 
-// "Reset: everything writable 0, except comparators, which are 2^64 - 1."
-fn reset_timer() -> Timer
-    ensures { λ r. ⌜ r ≡ resetTimer ⌝ }
+// "Reset: everything writable 0, except comparators, which are 2^64 - 1." "… a timer's reset route is its mask's lowest
+// pin, …" (K6)
+fn reset_timer(mask: u32) -> Timer
+    ensures { λ r. ⌜ r ≡ resetTimer mask ⌝ }
 {
     Timer {
         comparator: 0xFFFFFFFFFFFFFFFF,
         period: 0,
-        route: 0,
+        route: lowest(mask),
         level_type: 0,
         interrupt: 0,
         periodic: 0,
@@ -40,15 +43,20 @@ fn reset_timer() -> Timer
     }
 }
 
-// "Reset: everything writable 0, …": the block, with its three timers.
-pub fn reset() -> Timers
-    ensures { λ r. ⌜ r ≡ resetTimers ⌝ }
+// "Reset: everything writable 0, …": the block, with its settings and its three timers.
+pub fn reset(settings: Settings) -> Timers
+    ensures { λ r. ⌜ r ≡ resetTo settings ⌝ }
 {
-    let t = reset_timer();
+    let t0 = reset_timer(settings.mask0);
+    let t1 = reset_timer(settings.mask1);
+    let t2 = reset_timer(settings.mask2);
     Timers {
         counter: 0,
+        tick_period: settings.period,
+        vendor: settings.vendor as u32,
+        masks: [settings.mask0, settings.mask1, settings.mask2],
         enabled: 0,
-        timer: [t, t, t],
+        timer: [t0, t1, t2],
     }
 }
 
@@ -72,6 +80,14 @@ fn status(s: Timers) -> u64
     one(t2.status) * 4 + (one(t1.status) * 2 + one(t0.status))
 }
 
+// "… (period …, vendor …, 64-bit counter, three timers, revision 1)": bits 63:32 and 31:16 are the settings' (K6).
+fn capabilities(s: Timers) -> u64
+    ensures { λ r. ⌜ r ≡ capabilitiesOf s ⌝ }
+{
+    let vendor = s.vendor % 65536;
+    s.tick_period as u64 * 4294967296 + (vendor as u64 * 65536 + 0x2201)
+}
+
 // What a whole register reads. "Offsets not listed read 0 and ignore writes."
 pub(crate) fn register(s: Timers, offset: u64) -> u64
     ensures { λ r. ⌜ r ≡ registerOf s offset ⌝ }
@@ -80,15 +96,15 @@ pub(crate) fn register(s: Timers, offset: u64) -> u64
     let t1 = s.timer[1];
     let t2 = s.timer[2];
     match offset {
-        0x000 => 0x05F5E10080862201,
+        0x000 => capabilities(s),
         0x010 => (s.enabled == 1) as u64,
         0x020 => status(s),
         0x0F0 => s.counter,
-        0x100 => configuration(t0),
+        0x100 => configuration(s.masks[0], t0),
         0x108 => t0.comparator,
-        0x120 => configuration(t1),
+        0x120 => configuration(s.masks[1], t1),
         0x128 => t1.comparator,
-        0x140 => configuration(t2),
+        0x140 => configuration(s.masks[2], t2),
         0x148 => t2.comparator,
         _ => 0,
     }
@@ -101,15 +117,13 @@ fn statuses_cleared(s: Timers, value: u64) -> Timers
     let t0 = s.timer[0];
     let t1 = s.timer[1];
     let t2 = s.timer[2];
-    Timers {
-        counter: s.counter,
-        enabled: s.enabled,
-        timer: [
-            cleared(t0, value % 2),
-            cleared(t1, value / 2 % 2),
-            cleared(t2, value / 4 % 2),
-        ],
-    }
+    let mut next = s;
+    next.timer = [
+        cleared(t0, value % 2),
+        cleared(t1, value / 2 % 2),
+        cleared(t2, value / 4 % 2),
+    ];
+    next
 }
 
 // "0x010: bit 0 enable."
@@ -117,7 +131,7 @@ fn enabled_written(s: Timers, value: u64) -> Timers
     ensures { λ r. ⌜ r ≡ withEnabled s (bit 0 value) ⌝ }
 {
     let mut next = s;
-    next.enabled = value % 2;
+    next.enabled = (value % 2) as u32;
     next
 }
 
@@ -144,11 +158,11 @@ pub(crate) fn register_written(s: Timers, offset: u64, value: u64) -> Timers
         0x010 => enabled_written(s, value),
         0x020 => statuses_cleared(s, value),
         0x0F0 => counter_written(s, value),
-        0x100 => with_timer(s, 0, configured(t0, value)),
+        0x100 => with_timer(s, 0, configured(s.masks[0], t0, value)),
         0x108 => with_timer(s, 0, compared(t0, value)),
-        0x120 => with_timer(s, 1, configured(t1, value)),
+        0x120 => with_timer(s, 1, configured(s.masks[1], t1, value)),
         0x128 => with_timer(s, 1, compared(t1, value)),
-        0x140 => with_timer(s, 2, configured(t2, value)),
+        0x140 => with_timer(s, 2, configured(s.masks[2], t2, value)),
         0x148 => with_timer(s, 2, compared(t2, value)),
         _ => s,
     }

@@ -110,8 +110,39 @@ pub fn one_input(i: usize) -> bool {
     !is_dashed(i)
 }
 
-// Whether argument i is an input and no option, the one after it a file's name, so neither an option nor standard
-// input, and there is no other.
+// Whether argument i is the last one, and a file's name: neither an option nor standard input.
+pub fn one_file(i: usize) -> bool {
+    let count = os::arg_count();
+    if count <= i {
+        return false;
+    }
+    if 1 < count - i {
+        return false;
+    }
+    if is_dashed(i) {
+        return false;
+    }
+    !is_standard(i)
+}
+
+// Whether argument i is an input and no option, the one after it is another or there is none, and there is no third. Only
+// one of the two can be standard input.
+pub fn two_inputs(i: usize) -> bool {
+    let count = os::arg_count();
+    if count <= i {
+        return false;
+    }
+    if is_dashed(i) {
+        return false;
+    }
+    let next = i + 1;
+    if is_standard(i) {
+        return one_file(next);
+    }
+    one_input(next)
+}
+
+// Whether argument i is an input and no option, the one after it a file's name, and there is no other.
 pub fn input_and_file(i: usize) -> bool {
     let count = os::arg_count();
     if count <= i {
@@ -124,8 +155,12 @@ pub fn input_and_file(i: usize) -> bool {
     if is_dashed(i) {
         return false;
     }
-    if is_dashed(last) {
-        return false;
-    }
-    !is_standard(last)
+    one_file(last)
+}
+
+// Whether argument i is this word.
+pub fn says(i: usize, word: &[u8]) -> bool {
+    let mut text = io::buffer();
+    let n = os::arg(i, &mut text);
+    same(&text[..n], word)
 }

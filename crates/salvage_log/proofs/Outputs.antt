@@ -107,7 +107,3 @@ module _ (s k l : List ℕ) (h : length s ≤ 262144) (roomy : 262144 ≤ length
             (told .0 ∙ ap length text, told .1 ∙ ap (λ (t : List ℕ). over t o) text),
             (makes s h, ap bytesIn all ∙ sym (ap length (filed s h)), d ∙ fits .1 ∙ sym (ap (λ (t : List ℕ). over t k) (filed s h))),
           )
-
--- what was written lies within the buffer
-pub within : (w o o′ : List ℕ) (n : ℕ) → n ≡ length w → o′ ≡ over w o → n ≤ length o′
-within w o o′ n e d = omega (arith, e, ap length d, length-append w (drop (length w) o))

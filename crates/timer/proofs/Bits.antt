@@ -30,26 +30,27 @@ placed-out x k l =
     above : k - 64 + 64 ≡ k
     above = omega arith
 
-abbrev parts : ℕ → ℕ → ℕ → ℕ → ℕ → ℕ → ℕ
-parts r n s p i l = bitOr (bitOr (r * 512 % 2 ^ 64) (bitOr n (bitOr s (bitOr (bitOr p (bitOr i l)) 48)))) 0x00FFFFFF00000000
+abbrev parts : ℕ → ℕ → ℕ → ℕ → ℕ → ℕ → ℕ → ℕ
+parts m r n s p i l = bitOr (m * 4294967296 % 2 ^ 64) (bitOr (r * 512 % 2 ^ 64) (bitOr n (bitOr s (bitOr (bitOr p (bitOr i l)) 48))))
 
 -- each part lies above those to its right
 together :
-    (r n s p i l : ℕ) → r < 2 ^ 16 → n < 2 → s < 2 → p < 2 → i < 2 → l < 2 →
-    parts r (n * 2 ^ 8) (s * 2 ^ 6) (p * 2 ^ 3) (i * 2 ^ 2) (l * 2 ^ 1)
-    ≡ 0x00FFFFFF * 2 ^ 32 + (r * 2 ^ 9 + (n * 2 ^ 8 + (s * 2 ^ 6 + (3 * 2 ^ 4 + (p * 2 ^ 3 + (i * 2 ^ 2 + l * 2 ^ 1))))))
-together r n s p i l hr hn hs hp hi hl =
-    ap (λ (x : ℕ). bitOr (bitOr (r * 512 % 2 ^ 64) (bitOr (n * 2 ^ 8) (bitOr (s * 2 ^ 6) (bitOr (bitOr (p * 2 ^ 3) x) 48)))) top) (or-shifted i 2 (l * 2 ^ 1) (omega arith))
-    ∙ ap (λ (x : ℕ). bitOr (bitOr (r * 512 % 2 ^ 64) (bitOr (n * 2 ^ 8) (bitOr (s * 2 ^ 6) (bitOr x 48)))) top) (or-shifted p 3 x1 (omega arith))
-    ∙ ap (λ (x : ℕ). bitOr (bitOr (r * 512 % 2 ^ 64) (bitOr (n * 2 ^ 8) (bitOr (s * 2 ^ 6) x))) top) (or-shifted-r 3 4 x2 (omega arith))
-    ∙ ap (λ (x : ℕ). bitOr (bitOr (r * 512 % 2 ^ 64) (bitOr (n * 2 ^ 8) x)) top) (or-shifted s 6 x3 (omega arith))
-    ∙ ap (λ (x : ℕ). bitOr (bitOr (r * 512 % 2 ^ 64) x) top) (or-shifted n 8 x4 (omega arith))
-    ∙ ap (λ (x : ℕ). bitOr (bitOr x x5) top) (mod-eq-of-lt {n = r * 512} {m = 2 ^ 64} (omega arith))
-    ∙ ap (λ (x : ℕ). bitOr x top) (or-shifted r 9 x5 (omega arith))
-    ∙ or-shifted-r 0x00FFFFFF 32 x6 (omega arith)
+    (m r n s p i l : ℕ) → m < 2 ^ 32 → r < 2 ^ 16 → n < 2 → s < 2 → p < 2 → i < 2 → l < 2 →
+    parts m r (n * 2 ^ 8) (s * 2 ^ 6) (p * 2 ^ 3) (i * 2 ^ 2) (l * 2 ^ 1)
+    ≡ m * 2 ^ 32 + (r * 2 ^ 9 + (n * 2 ^ 8 + (s * 2 ^ 6 + (3 * 2 ^ 4 + (p * 2 ^ 3 + (i * 2 ^ 2 + l * 2 ^ 1))))))
+together m r n s p i l hm hr hn hs hp hi hl =
+    ap (λ (x : ℕ). bitOr top (bitOr (r * 512 % 2 ^ 64) (bitOr (n * 2 ^ 8) (bitOr (s * 2 ^ 6) (bitOr (bitOr (p * 2 ^ 3) x) 48))))) (or-shifted i 2 (l * 2 ^ 1) (omega arith))
+    ∙ ap (λ (x : ℕ). bitOr top (bitOr (r * 512 % 2 ^ 64) (bitOr (n * 2 ^ 8) (bitOr (s * 2 ^ 6) (bitOr x 48))))) (or-shifted p 3 x1 (omega arith))
+    ∙ ap (λ (x : ℕ). bitOr top (bitOr (r * 512 % 2 ^ 64) (bitOr (n * 2 ^ 8) (bitOr (s * 2 ^ 6) x)))) (or-shifted-r 3 4 x2 (omega arith))
+    ∙ ap (λ (x : ℕ). bitOr top (bitOr (r * 512 % 2 ^ 64) (bitOr (n * 2 ^ 8) x))) (or-shifted s 6 x3 (omega arith))
+    ∙ ap (λ (x : ℕ). bitOr top (bitOr (r * 512 % 2 ^ 64) x)) (or-shifted n 8 x4 (omega arith))
+    ∙ ap (λ (x : ℕ). bitOr top (bitOr x x5)) (mod-eq-of-lt {n = r * 512} {m = 2 ^ 64} (omega arith))
+    ∙ ap (λ (x : ℕ). bitOr top x) (or-shifted r 9 x5 (omega arith))
+    ∙ ap (λ (x : ℕ). bitOr x x6) (mod-eq-of-lt {n = m * 4294967296} {m = 2 ^ 64} (omega arith))
+    ∙ or-shifted m 32 x6 (omega arith)
   where
     top : ℕ
-    top = 0x00FFFFFF00000000
+    top = m * 4294967296 % 2 ^ 64
 
     x1 : ℕ
     x1 = i * 2 ^ 2 + l * 2 ^ 1
@@ -73,10 +74,10 @@ bit-lt : (f : ℕ) → boolByte (flag f) < 2
 bit-lt f = byte-lt (flag f)
 
 pub configuration-code :
-    (t : Timer) (n s p i l : ℕ) → t .route < 2 ^ 16 → n ≡ placed 8 (t .narrow) → s ≡ placed 6 (t .«set_comparator») → p ≡ placed 3 (t .periodic) →
-    i ≡ placed 2 (t .interrupt) → l ≡ placed 1 (t .«level_type») → parts (t .route) n s p i l ≡ configurationOf t
+    (mask : ℕ) (t : Timer) (n s p i l : ℕ) → mask < 2 ^ 32 → t .route < 2 ^ 16 → n ≡ placed 8 (t .narrow) → s ≡ placed 6 (t .«set_comparator») → p ≡ placed 3 (t .periodic) →
+    i ≡ placed 2 (t .interrupt) → l ≡ placed 1 (t .«level_type») → parts mask (t .route) n s p i l ≡ configurationOf mask t
 unfolding configurationOf
-configuration-code t n s p i l hr en es ep ei el =
-    (λ j. parts (t .route) (en j) (es j) (ep j) (ei j) (el j))
-    ∙ together (t .route) (boolByte (flag (t .narrow))) (boolByte (flag (t .«set_comparator»))) (boolByte (flag (t .periodic))) (boolByte (flag (t .interrupt))) (boolByte (flag (t .«level_type»)))
-    hr (bit-lt (t .narrow)) (bit-lt (t .«set_comparator»)) (bit-lt (t .periodic)) (bit-lt (t .interrupt)) (bit-lt (t .«level_type»))
+configuration-code mask t n s p i l hm hr en es ep ei el =
+    (λ j. parts mask (t .route) (en j) (es j) (ep j) (ei j) (el j))
+    ∙ together mask (t .route) (boolByte (flag (t .narrow))) (boolByte (flag (t .«set_comparator»))) (boolByte (flag (t .periodic))) (boolByte (flag (t .interrupt))) (boolByte (flag (t .«level_type»)))
+    hm hr (bit-lt (t .narrow)) (bit-lt (t .«set_comparator»)) (bit-lt (t .periodic)) (bit-lt (t .interrupt)) (bit-lt (t .«level_type»))

@@ -107,8 +107,8 @@ module _ (t : Timer) (w : t .narrow ≡ 1) where
       to x = rw w (reduced-low x v l ∙ sym (mod-eq-of-lt {n = v} {m = 2 ^ 32} l))
 
   -- "A high half in 32-bit mode stores 0": the number is as it was, and bit 6 is cleared
-  pub narrow-high : Formed t → (v : ℕ) → halfComparedOf t half.High v ≡ withSet t 0
-  narrow-high z v = go (flag (t .periodic)) refl
+  pub narrow-high : (mask : ℕ) → Formed mask t → (v : ℕ) → halfComparedOf t half.High v ≡ withSet t 0
+  narrow-high mask z v = go (flag (t .periodic)) refl
     where
       kept : (x : ℕ) → x < 2 ^ 32 → reduced (narrowed t) (replaced half.High x v) ≡ x
       kept x l = rw w (reduced-high x v ∙ mod-eq-of-lt {n = x} {m = 2 ^ 32} l)
@@ -168,8 +168,8 @@ module _ (t : Timer) (v : ℕ) where
         ∙ set-again (first t half.Low v) (ap (λ (y : ℕ). cond (flag (t .«set_comparator»)) y (t .comparator)) (low-half (t .comparator) ∙ sym (rw w refl)))
 
     -- high then low, periodic: the period only
-    pub narrow-high-first : Formed t → flag (t .periodic) ≡ true → inHalves t half.High v ≡ withSet (withPeriod t (v % 2 ^ 32)) 0
-    narrow-high-first z e =
-        ap (λ (u : Timer). halfComparedOf u half.Low (halfOf half.Low v)) (narrow-high t w z (halfOf half.High v))
+    pub narrow-high-first : (mask : ℕ) → Formed mask t → flag (t .periodic) ≡ true → inHalves t half.High v ≡ withSet (withPeriod t (v % 2 ^ 32)) 0
+    narrow-high-first mask z e =
+        ap (λ (u : Timer). halfComparedOf u half.Low (halfOf half.Low v)) (narrow-high t w mask z (halfOf half.High v))
         ∙ periodic-set (withSet t 0) _ _ e
         ∙ ap (λ (y : ℕ). withSet (withPeriod t y) 0) (low-half (t .period))

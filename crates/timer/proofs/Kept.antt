@@ -5,13 +5,16 @@ use mathlib.Core.Bool.{Bool, true, false, cond}
 use native.Mathlib.Omega.{arith}
 use native.Mathlib.Nat.{mod-lt}
 use lib.Pow.{pow-pos}
-use lib.Dec.{ltb, lit≤}
-use borrow.Author.Tests.{eqb-true, ltb-true}
+use lib.Dec.{lit≤}
+use borrow.Author.Tests.{eqb-true, lt-ltb}
+use Rattle.settings.specs.Settings.{maskOk}
 use Rattle.timer.specs.declared.Timer.{Timer}
 use Rattle.timer.specs.State.{flag, width, reduced, narrowed, withComparator, withPeriod, withSet, resetTimer}
+use Rattle.timer.specs.Mask.{inMask, lowest}
 use Rattle.timer.specs.Formed.{timerFormed, flagsFit, narrowFits, Formed}
 use Rattle.timer.specs.Registers.{bit, configuredOf, setOf, clearedOf}
 use Rattle.timer.specs.Tick.{firing}
+use Rattle.timer.proofs.Masks.{in-pins, lowest-in}
 use Rattle.timer.proofs.Formed.{formed-in, formed-out}
 
 bit-le : (k v : ℕ) → bit k v ≤ 1
@@ -37,8 +40,8 @@ taken f x n = go (flag f) refl n
     go true e n = eqb-true f 1 e
     go false e n = absurd (n refl)
 
-module _ (t : Timer) (z : Formed t) where
-  firing-facts : Formed (firing t)
+module _ (mask : ℕ) (t : Timer) (z : Formed mask t) where
+  firing-facts : Formed mask (firing t)
   unfolding firing
   firing-facts =
       record {
@@ -46,6 +49,8 @@ module _ (t : Timer) (z : Formed t) where
         comparator-fits = λ n. choose-lt (flag (t .periodic)) ((t .comparator + t .period) % 2 ^ width (narrowed t)) (t .comparator) (2 ^ 32) (rw n (mod-lt (t .comparator + t .period) (pow-pos 32))) (z .comparator-fits n);
         period-fits = z .period-fits;
         route-pin = z .route-pin;
+        mask-ok = z .mask-ok;
+        route-in = z .route-in;
         status-level = λ n. go (flag (t .«level_type»)) refl n;
         level-bit = z .level-bit;
         interrupt-bit = z .interrupt-bit;
@@ -59,14 +64,16 @@ module _ (t : Timer) (z : Formed t) where
       go true e n = eqb-true (t .«level_type») 1 e
       go false e n = z .status-level n
 
-  configured-facts : (v : ℕ) → Formed (configuredOf t v)
+  configured-facts : (v : ℕ) → Formed mask (configuredOf mask t v)
   unfolding configuredOf
   configured-facts v =
       record {
         set-periodic = taken (bit 3 v) (bit 6 v);
         comparator-fits = reduced-lt (bit 8 v) (t .comparator);
         period-fits = reduced-lt (bit 8 v) (t .period);
-        route-pin = go (ltb (v / 2 ^ 9 % 2 ^ 5) 24) refl;
+        route-pin = in-pins mask (cond (inMask mask (v / 2 ^ 9 % 2 ^ 5)) (v / 2 ^ 9 % 2 ^ 5) (t .route)) (z .mask-ok) in-mask;
+        mask-ok = z .mask-ok;
+        route-in = in-mask;
         status-level = taken (bit 1 v) (t .status);
         level-bit = bit-le 1 v;
         interrupt-bit = bit-le 2 v;
@@ -76,11 +83,14 @@ module _ (t : Timer) (z : Formed t) where
         status-bit = choose-le (flag (bit 1 v)) (t .status) 0 1 (z .status-bit) zero-le;
       }
     where
-      go : (b : Bool) → ltb (v / 2 ^ 9 % 2 ^ 5) 24 ≡ b → cond b (v / 2 ^ 9 % 2 ^ 5) (t .route) < 24
-      go true e = ltb-true (v / 2 ^ 9 % 2 ^ 5) 24 e
-      go false e = z .route-pin
+      go : (b : Bool) → inMask mask (v / 2 ^ 9 % 2 ^ 5) ≡ b → inMask mask (cond b (v / 2 ^ 9 % 2 ^ 5) (t .route)) ≡ true
+      go true e = e
+      go false e = z .route-in
 
-  set-facts : (c p : ℕ) → Formed (setOf t c p)
+      in-mask : inMask mask (cond (inMask mask (v / 2 ^ 9 % 2 ^ 5)) (v / 2 ^ 9 % 2 ^ 5) (t .route)) ≡ true
+      in-mask = go (inMask mask (v / 2 ^ 9 % 2 ^ 5)) refl
+
+  set-facts : (c p : ℕ) → Formed mask (setOf t c p)
   unfolding setOf
   set-facts c p = go (flag (t .periodic))
     where
@@ -96,13 +106,15 @@ module _ (t : Timer) (z : Formed t) where
       periodic : Timer
       periodic = withSet (withPeriod (withComparator t (cond (flag (t .«set_comparator»)) x (t .comparator))) y) 0
 
-      go : (b : Bool) → Formed (cond b periodic (withComparator t x))
+      go : (b : Bool) → Formed mask (cond b periodic (withComparator t x))
       go true =
           record {
             set-periodic = λ n. absurd (n refl);
             comparator-fits = λ n. choose-lt (flag (t .«set_comparator»)) x (t .comparator) (2 ^ 32) (x-lt n) (z .comparator-fits n);
             period-fits = reduced-lt (t .narrow) p;
             route-pin = z .route-pin;
+            mask-ok = z .mask-ok;
+            route-in = z .route-in;
             status-level = z .status-level;
             level-bit = z .level-bit;
             interrupt-bit = z .interrupt-bit;
@@ -117,6 +129,8 @@ module _ (t : Timer) (z : Formed t) where
             comparator-fits = x-lt;
             period-fits = z .period-fits;
             route-pin = z .route-pin;
+            mask-ok = z .mask-ok;
+            route-in = z .route-in;
             status-level = z .status-level;
             level-bit = z .level-bit;
             interrupt-bit = z .interrupt-bit;
@@ -126,7 +140,7 @@ module _ (t : Timer) (z : Formed t) where
             status-bit = z .status-bit;
           }
 
-  cleared-facts : Formed (clearedOf t)
+  cleared-facts : Formed mask (clearedOf t)
   unfolding clearedOf
   cleared-facts =
       record {
@@ -134,6 +148,8 @@ module _ (t : Timer) (z : Formed t) where
         comparator-fits = z .comparator-fits;
         period-fits = z .period-fits;
         route-pin = z .route-pin;
+        mask-ok = z .mask-ok;
+        route-in = z .route-in;
         status-level = λ n. absurd (n refl);
         level-bit = z .level-bit;
         interrupt-bit = z .interrupt-bit;
@@ -145,19 +161,21 @@ module _ (t : Timer) (z : Formed t) where
 
 -- ---- the same of the test
 
-module _ (t : Timer) (e : timerFormed t ≡ true) where
-  pub firing-formed : timerFormed (firing t) ≡ true
-  firing-formed = formed-out (firing t) (firing-facts t (formed-in t e))
+module _ (mask : ℕ) (t : Timer) (e : timerFormed mask t ≡ true) where
+  pub firing-formed : timerFormed mask (firing t) ≡ true
+  firing-formed = formed-out mask (firing t) (firing-facts mask t (formed-in mask t e))
 
-  pub configured-formed : (v : ℕ) → timerFormed (configuredOf t v) ≡ true
-  configured-formed v = formed-out (configuredOf t v) (configured-facts t (formed-in t e) v)
+  pub configured-formed : (v : ℕ) → timerFormed mask (configuredOf mask t v) ≡ true
+  configured-formed v = formed-out mask (configuredOf mask t v) (configured-facts mask t (formed-in mask t e) v)
 
-  pub set-formed : (c p : ℕ) → timerFormed (setOf t c p) ≡ true
-  set-formed c p = formed-out (setOf t c p) (set-facts t (formed-in t e) c p)
+  pub set-formed : (c p : ℕ) → timerFormed mask (setOf t c p) ≡ true
+  set-formed c p = formed-out mask (setOf t c p) (set-facts mask t (formed-in mask t e) c p)
 
-  pub cleared-formed : timerFormed (clearedOf t) ≡ true
-  cleared-formed = formed-out (clearedOf t) (cleared-facts t (formed-in t e))
+  pub cleared-formed : timerFormed mask (clearedOf t) ≡ true
+  cleared-formed = formed-out mask (clearedOf t) (cleared-facts mask t (formed-in mask t e))
 
-pub reset-formed : timerFormed resetTimer ≡ true
+pub reset-formed : (mask : ℕ) → maskOk mask ≡ true → timerFormed mask (resetTimer mask) ≡ true
 unfolding timerFormed flagsFit narrowFits resetTimer
-reset-formed = refl
+reset-formed mask e =
+    let h = lowest-in mask e in
+    rw (lt-ltb (lowest mask) 24 (in-pins mask (lowest mask) e h), e, h)

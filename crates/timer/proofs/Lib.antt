@@ -4,6 +4,7 @@
 --   Ran      what the proofs of the functions cite of it
 --   Alone    the ticks of one timer by itself, one by one
 --   Wire     what a firing does to the wire of its pin: `risen`
+--   Masks    a route mask and its lowest pin
 --   Formed   well-formedness: from the test to the facts and back
 --   Kept     what keeps it
 --   Bits, Written   register words as the code makes them
@@ -15,6 +16,7 @@ pub mod Closed
 pub mod Ran
 pub mod Alone
 pub mod Wire
+pub mod Masks
 pub mod Formed
 pub mod Kept
 pub mod Bits

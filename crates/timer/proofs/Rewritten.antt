@@ -5,11 +5,11 @@ use mathlib.Core.Bool.{Bool, true, false, cond}
 use native.Mathlib.Nat.{mod-eq-of-lt}
 use native.Mathlib.Omega.{arith}
 use native.Mathlib.Decide.{ℕ-discrete}
-use lib.Dec.{ltb}
-use borrow.Author.Tests.{eqb-true, eq-eqb, lt-ltb}
+use borrow.Author.Tests.{eqb-true, eq-eqb}
 use Rattle.timer.specs.declared.Timer.{Timer}
 use Rattle.timer.specs.declared.Half.the-variants as half
 use Rattle.timer.specs.State.{flag, reduced}
+use Rattle.timer.specs.Mask.{inMask}
 use Rattle.timer.specs.Formed.{Formed}
 use Rattle.timer.specs.Halves.{halfOf, replaced}
 use Rattle.timer.specs.Registers.{bit, configurationOf, configuredOf}
@@ -25,14 +25,14 @@ record Alike (x y : ℕ) : Type 0 where
   route : x / 2 ^ 9 % 2 ^ 5 ≡ y / 2 ^ 9 % 2 ^ 5
 
 -- are written alike
-configured-alike : (t : Timer) (x y : ℕ) → Alike x y → configuredOf t x ≡ configuredOf t y
+configured-alike : (mask : ℕ) (t : Timer) (x y : ℕ) → Alike x y → configuredOf mask t x ≡ configuredOf mask t y
 unfolding configuredOf
-configured-alike t x y a =
+configured-alike mask t x y a =
     λ i.
     record {
       comparator = reduced (flag (a .narrow i)) (t .comparator);
       period = reduced (flag (a .narrow i)) (t .period);
-      route = cond (ltb (a .route i) 24) (a .route i) (t .route);
+      route = cond (inMask mask (a .route i)) (a .route i) (t .route);
       «level_type» = a .level i;
       interrupt = a .interrupt i;
       periodic = a .periodic i;
@@ -69,19 +69,19 @@ only-where f x h = go (ℕ-discrete x 0)
     go (no n) = rw (eq-eqb f 1 (h n))
 
 -- a low half is the whole write, whatever stands above it
-pub configured-low : (t : Timer) (x v w : ℕ) → v ≡ halfOf half.Low w → configuredOf t (replaced half.Low x v) ≡ configuredOf t w
-configured-low t x v w e = configured-alike t (replaced half.Low x v) w (low-alike x v w e)
+pub configured-low : (mask : ℕ) (t : Timer) (x v w : ℕ) → v ≡ halfOf half.Low w → configuredOf mask t (replaced half.Low x v) ≡ configuredOf mask t w
+configured-low mask t x v w e = configured-alike mask t (replaced half.Low x v) w (low-alike x v w e)
 
-module _ (t : Timer) (z : Formed t) where
+module _ (mask : ℕ) (t : Timer) (z : Formed mask t) where
   -- what the register reads, written back
-  configured-same : configuredOf t (configurationOf t) ≡ t
+  configured-same : configuredOf mask t (configurationOf mask t) ≡ t
   unfolding configuredOf
   configured-same =
       λ i.
       record {
         comparator = (ap (λ (x : ℕ). reduced (flag x) (t .comparator)) (r .narrow) ∙ fitting (t .narrow) (t .comparator) (z .comparator-fits)) i;
         period = (ap (λ (x : ℕ). reduced (flag x) (t .period)) (r .narrow) ∙ fitting (t .narrow) (t .period) (z .period-fits)) i;
-        route = (ap (λ (x : ℕ). cond (ltb x 24) x (t .route)) (r .route) ∙ in-range) i;
+        route = (ap (λ (x : ℕ). cond (inMask mask x) x (t .route)) (r .route) ∙ in-range) i;
         «level_type» = r .level i;
         interrupt = r .interrupt i;
         periodic = r .periodic i;
@@ -90,12 +90,12 @@ module _ (t : Timer) (z : Formed t) where
         status = (ap (λ (x : ℕ). cond (flag x) (t .status) 0) (r .level) ∙ only-where (t .«level_type») (t .status) (z .status-level)) i;
       }
     where
-      r : Reads (configurationOf t) t
-      r = configuration-reads t z
+      r : Reads (configurationOf mask t) t
+      r = configuration-reads mask t z
 
-      in-range : cond (ltb (t .route) 24) (t .route) (t .route) ≡ t .route
-      in-range = rw (lt-ltb (t .route) 24 (z .route-pin))
+      in-range : cond (inMask mask (t .route)) (t .route) (t .route) ≡ t .route
+      in-range = rw (z .route-in)
 
   -- a high half changes nothing, bit 6 and the status included
-  pub configured-high : (v : ℕ) → configuredOf t (replaced half.High (configurationOf t) v) ≡ t
-  configured-high v = configured-alike t (replaced half.High (configurationOf t) v) (configurationOf t) (high-alike (configurationOf t) v) ∙ configured-same
+  pub configured-high : (v : ℕ) → configuredOf mask t (replaced half.High (configurationOf mask t) v) ≡ t
+  configured-high v = configured-alike mask t (replaced half.High (configurationOf mask t) v) (configurationOf mask t) (high-alike (configurationOf mask t) v) ∙ configured-same

@@ -1,3 +1,4 @@
+pub mod Mask
 pub mod State
 pub mod Formed
 pub mod Halves

@@ -1,11 +1,12 @@
--- "Timer registers", one timer's: 0x100 + 0x20n, its configuration, and 0x108 + 0x20n, its comparator.
+-- "Timer registers", one timer's: 0x100 + 0x20n, its configuration, and 0x108 + 0x20n, its comparator. The timer's route mask is a setting of the
+-- block, and given.
 use Prim.Native.Nat.{ℕ, _+_, _*_, _/_, _%_, _^_}
 use mathlib.Core.Bool.{cond}
-use lib.Dec.{ltb}
 use mir.Val.{boolByte}
 use Rattle.timer.specs.declared.Timer.{Timer}
 use Rattle.timer.specs.declared.Half.{Half}
 use Rattle.timer.specs.Halves.{replaced}
+use Rattle.timer.specs.Mask.{inMask}
 use Rattle.timer.specs.State.{flag, reduced, narrowed, withStatus, withComparator, withPeriod, withRoute, withSet, withModes}
 
 -- bit k of a number
@@ -18,24 +19,24 @@ bit k v = v / 2 ^ k % 2
 abbrev pub placed : ℕ → ℕ → ℕ
 placed k f = boolByte (flag f) * 2 ^ k
 
--- bits 5 and 4 read 1; bits 63:32 read 0x00FFFFFF; the rest read 0
-unfoldable pub configurationOf : Timer → ℕ
-configurationOf t =
-    0x00FFFFFF * 2 ^ 32
+-- bits 5 and 4 read 1; bits 63:32 read the mask; the rest read 0
+unfoldable pub configurationOf : ℕ → Timer → ℕ
+configurationOf mask t =
+    mask * 2 ^ 32
     + (t .route * 2 ^ 9
     + (placed 8 (t .narrow)
     + (placed 6 (t .«set_comparator»)
     + (3 * 2 ^ 4 + (placed 3 (t .periodic) + (placed 2 (t .interrupt) + placed 1 (t .«level_type»)))))))
 
--- a route above 23 keeps the old route
-abbrev pub routed : ℕ → Timer → ℕ
-routed v t = cond (ltb (v / 2 ^ 9 % 2 ^ 5) 24) (v / 2 ^ 9 % 2 ^ 5) (t .route)
+-- a written route outside the mask keeps the old one
+abbrev pub routed : ℕ → ℕ → Timer → ℕ
+routed mask v t = cond (inMask mask (v / 2 ^ 9 % 2 ^ 5)) (v / 2 ^ 9 % 2 ^ 5) (t .route)
 
 -- set-comparator is kept only if bit 3 is written 1; writing edge type clears the status; writing 32-bit mode reduces comparator and period
-unfoldable pub configuredOf : Timer → ℕ → Timer
-configuredOf t v =
+unfoldable pub configuredOf : ℕ → Timer → ℕ → Timer
+configuredOf mask t v =
     let w = withModes t (bit 1 v) (bit 2 v) (bit 3 v) (bit 8 v) in
-    let r = withRoute (withSet w (cond (flag (bit 3 v)) (bit 6 v) 0)) (routed v t) in
+    let r = withRoute (withSet w (cond (flag (bit 3 v)) (bit 6 v) 0)) (routed mask v t) in
     let s = withStatus r (cond (flag (bit 1 v)) (t .status) 0) in
     withPeriod (withComparator s (reduced (flag (bit 8 v)) (t .comparator))) (reduced (flag (bit 8 v)) (t .period))
 

@@ -3,6 +3,7 @@ use Prim.Native.Nat.{ℕ, _-_, _%_, _^_}
 use mathlib.Core.Bool.{Bool, true, false}
 use lib.Dec.{eqb}
 use Rattle.timer.specs.declared.Timer.{Timer}
+use Rattle.timer.specs.Mask.{lowest}
 
 -- a flag is set where it is 1
 abbrev pub flag : ℕ → Bool
@@ -108,10 +109,11 @@ withModes t level interrupt periodic narrow =
       status = t .status;
     }
 
--- ---- a timer whose numbers are all 0, and the timer at reset: everything writable 0, except the comparator
+-- ---- a timer whose numbers are all 0, and the timer at reset: everything writable 0, except the comparator and the route, which is its mask's
+-- lowest pin
 
 abbrev pub blank : Timer
 blank = record { comparator = 0; period = 0; route = 0; «level_type» = 0; interrupt = 0; periodic = 0; «set_comparator» = 0; narrow = 0; status = 0 }
 
-unfoldable pub resetTimer : Timer
-resetTimer = withComparator blank (2 ^ 64 - 1)
+unfoldable pub resetTimer : ℕ → Timer
+resetTimer mask = withRoute (withComparator blank (2 ^ 64 - 1)) (lowest mask)

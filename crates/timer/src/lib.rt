@@ -1,16 +1,18 @@
 // One timer of the block, by value: its registers, its firing, and many ticks of it at once.
 mod in_halves;
+mod mask;
 mod registers;
 mod tick;
 
 ghost use mathlib.Core.Path.{_≡_};
 ghost use Prim.Native.Nat.{_/_, _%_, _^_};
 ghost use mathlib.Core.Bool.{cond};
-ghost use lib.Dec.{ltb};
 ghost use Rattle.timer.specs.State.{reduced, blank, resetTimer};
-ghost use Rattle.timer.specs.Formed.{flagsFit, narrowFits, timerFormed};
+ghost use Rattle.timer.specs.Formed.{narrowFits, timerFormed};
+ghost use Rattle.timer.specs.Mask.{inMask};
 ghost use Rattle.timer.specs.Registers.{bit, placed};
 ghost use Rattle.timer.specs.Closed.{times};
+use settings::Settings;
 
 // Flags are 0 or 1: any other value is a state that is not well formed. No byte of it is padding.
 #[repr(C)]
@@ -98,15 +100,11 @@ fn choose_flag(b: bool, x: u8, y: u8) -> u8
 }
 
 // The route that a write to the configuration leaves.
-fn routed(v: u64, old: u16) -> u16
-    ensures { λ r. ⌜ r ≡ cond (ltb (v / 2 ^ 9 % 2 ^ 5) 24) (v / 2 ^ 9 % 2 ^ 5) old ⌝ }
+fn routed(mask: u32, v: u64, old: u16) -> u16
+    ensures { λ r. ⌜ r ≡ cond (inMask mask (v / 2 ^ 9 % 2 ^ 5)) (v / 2 ^ 9 % 2 ^ 5) old ⌝ }
 {
-    let x = (v >> Timer::ROUTE) & Timer::ROUTE_MASK;
-    if x < Timer::PINS as u64 {
-        x as u16
-    } else {
-        old
-    }
+    let x = ((v >> Timer::ROUTE) & Timer::ROUTE_MASK) as u16;
+    if mask::has(mask, x) { x } else { old }
 }
 
 impl Timer {
@@ -122,14 +120,14 @@ impl Timer {
     pub const SET_COMPARATOR: u32 = 6;
     // 8 32-bit mode, writable
     pub const NARROW: u32 = 8;
-    // 13:9 route, writable: a route above 23 keeps the old one
+    // 13:9 route, writable: one outside the mask keeps the old one
     pub const ROUTE: u64 = 9;
     // its five bits, shifted down
     pub const ROUTE_MASK: u64 = 0x1F;
     // bits 5 and 4 read 1
     pub const CAPABLE: u64 = 0x30;
-    // bits 63:32 read 0x00FFFFFF
-    pub const ROUTES: u64 = 0x00FFFFFF00000000;
+    // bits 63:32 read the mask
+    pub const MASK: u64 = 32;
 
     // ---- ranges
 
@@ -159,14 +157,14 @@ impl Timer {
         }
     }
 
-    // Everything writable 0, except the comparator.
-    pub fn reset() -> Timer
-        ensures { λ r. ⌜ r ≡ resetTimer ⌝ }
+    // Everything writable 0, except the comparator and the route, which is its mask's lowest pin.
+    pub fn reset(mask: u32) -> Timer
+        ensures { λ r. ⌜ r ≡ resetTimer mask ⌝ }
     {
         Timer {
             comparator: Timer::RESET_COMPARATOR,
             period: 0,
-            route: 0,
+            route: mask::lowest(mask),
             level_type: 0,
             interrupt: 0,
             periodic: 0,
@@ -176,15 +174,6 @@ impl Timer {
         }
     }
 
-    fn flags_fit(self) -> bool
-        ensures { λ r. ⌜ r ≡ flagsFit self ⌝ }
-    {
-        (self.level_type <= 1)
-            & ((self.interrupt <= 1)
-                & ((self.periodic <= 1)
-                    & ((self.set_comparator <= 1) & ((self.narrow <= 1) & (self.status <= 1)))))
-    }
-
     fn narrow_fits(self) -> bool
         ensures { λ r. ⌜ r ≡ narrowFits self ⌝ }
     {
@@ -192,11 +181,15 @@ impl Timer {
             | ((self.comparator < Timer::NARROW_END) & (self.period < Timer::NARROW_END))
     }
 
-    pub fn well_formed(self) -> bool
-        ensures { λ r. ⌜ r ≡ timerFormed self ⌝ }
+    // With this mask. Every call tests this: a bit that is 1 only beside another is compared with it, and a mask that has
+    // the route isn't 0.
+    pub fn well_formed(self, mask: u32) -> bool
+        ensures { λ r. ⌜ r ≡ timerFormed mask self ⌝ }
     {
-        let set = (self.set_comparator == 0) | (self.periodic == 1);
-        let shown = (self.status == 0) | (self.level_type == 1);
-        set & (self.narrow_fits() & ((self.route < Timer::PINS) & (shown & self.flags_fit())))
+        let flags = (self.level_type <= 1)
+            & ((self.interrupt <= 1) & ((self.periodic <= 1) & (self.narrow <= 1)));
+        let paired = (self.set_comparator <= self.periodic) & (self.status <= self.level_type);
+        let routed = (mask < Settings::MASK_END) & mask::has(mask, self.route);
+        paired & (self.narrow_fits() & (routed & flags))
     }
 }

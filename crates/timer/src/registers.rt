@@ -11,21 +11,21 @@ use crate::reduced;
 use crate::routed;
 
 impl Timer {
-    // What its configuration register reads.
-    pub fn configuration(self) -> u64
-        ensures { λ r. ⌜ r ≡ configurationOf self ⌝ }
+    // What its configuration register reads, above it the timer's mask.
+    pub fn configuration(self, mask: u32) -> u64
+        ensures { λ r. ⌜ r ≡ configurationOf mask self ⌝ }
     {
         let low = placed(self.periodic, Timer::PERIODIC)
             | (placed(self.interrupt, Timer::INTERRUPT)
                 | placed(self.level_type, Timer::LEVEL_TYPE));
         let high = placed(self.narrow, Timer::NARROW)
             | (placed(self.set_comparator, Timer::SET_COMPARATOR) | (low | Timer::CAPABLE));
-        (((self.route as u64) << Timer::ROUTE) | high) | Timer::ROUTES
+        ((mask as u64) << Timer::MASK) | (((self.route as u64) << Timer::ROUTE) | high)
     }
 
     // A write to its configuration register.
-    pub fn configured(self, value: u64) -> Timer
-        ensures { λ r. ⌜ r ≡ configuredOf self value ⌝ }
+    pub fn configured(self, mask: u32, value: u64) -> Timer
+        ensures { λ r. ⌜ r ≡ configuredOf mask self value ⌝ }
     {
         let level_type = bit(value, Timer::LEVEL_TYPE);
         let periodic = bit(value, Timer::PERIODIC);
@@ -33,7 +33,7 @@ impl Timer {
         Timer {
             comparator: reduced(narrow == 1, self.comparator),
             period: reduced(narrow == 1, self.period),
-            route: routed(value, self.route),
+            route: routed(mask, value, self.route),
             level_type,
             interrupt: bit(value, Timer::INTERRUPT),
             periodic,

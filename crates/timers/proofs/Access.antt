@@ -5,8 +5,9 @@ use mathlib.Core.Bool.{Bool, true, false, cond, _&&_}
 use mathlib.Core.List.{[], _∷_}
 use native.Mathlib.Omega.{arith}
 use native.Mathlib.Decide.{ℕ-discrete}
-use lib.Bits.{bitOr, or-shifted}
-use lib.Dec.{eqb}
+use native.Mathlib.Nat.{mod-lt, mod-eq-of-lt}
+use lib.Bits.{bitOr, bitAnd, and-mask, or-shifted}
+use lib.Dec.{eqb, lit<}
 use lib.ListN.{length}
 use mir.Val.{boolByte}
 use borrow.Author.Tests.{eq-eqb, ne-eqb, le-leb, lt-leb, lt-ltb, le-ltb}
@@ -18,9 +19,9 @@ use Rattle.timer.specs.State.{flag}
 use Rattle.timer.specs.Halves.{halfOf}
 use Rattle.timer.specs.Registers.{bit, placed, configuredOf, comparedOf, clearedOf}
 use Rattle.timers.specs.declared.Timers.{Timers}
-use Rattle.timers.specs.State.{at, isEnabled, withCounter, withEnabled, withList, withTimers, withTimer}
+use Rattle.timers.specs.State.{at, maskAt, isEnabled, withCounter, withEnabled, withList, withTimers, withTimer}
 use Rattle.timers.specs.Formed.{wellFormed}
-use Rattle.timers.specs.Registers.{aligned, numbered, statusOf, timerRegister, registerOf, clearedBy, timerWritten, writtenOf}
+use Rattle.timers.specs.Registers.{aligned, numbered, capabilitiesOf, statusOf, timerRegister, registerOf, clearedBy, timerWritten, writtenOf}
 use Rattle.timers.specs.Registers.{fits, halfAt, wholeAt, halfWritten, shownOf, storedOf}
 use Rattle.timers.specs.Inner.{timerPut}
 use Rattle.timers.proofs.Three.{three-same, eta}
@@ -57,7 +58,7 @@ module _ (s : Timers) (o : ℕ) where
       unfolding registerOf
       read-above l = rw (ne-eqb o 0 n0, ne-eqb o 0x010 n1, ne-eqb o 0x020 n2, ne-eqb o 0x0F0 n3, le-leb 0x100 o (omega arith), le-ltb o 0x160 l)
 
-      pub read-timer : 0x100 ≤ o → o < 0x160 → registerOf s o ≡ timerRegister (at s (numbered o)) o
+      pub read-timer : 0x100 ≤ o → o < 0x160 → registerOf s o ≡ timerRegister (maskAt s (numbered o)) (at s (numbered o)) o
       unfolding registerOf
       read-timer l h = rw (ne-eqb o 0 n0, ne-eqb o 0x010 n1, ne-eqb o 0x020 n2, ne-eqb o 0x0F0 n3, le-leb 0x100 o l, lt-ltb o 0x160 h)
 
@@ -74,7 +75,7 @@ module _ (s : Timers) (o : ℕ) where
       unfolding writtenOf
       write-timer l h = rw (ne-eqb o 0x010 n1, ne-eqb o 0x020 n2, ne-eqb o 0x0F0 n3, le-leb 0x100 o l, lt-ltb o 0x160 h)
 
-  pub read-capabilities : o ≡ 0x000 → registerOf s o ≡ 0x05F5E10080862201
+  pub read-capabilities : o ≡ 0x000 → registerOf s o ≡ capabilitiesOf s
   unfolding registerOf
   read-capabilities e = rw e
 
@@ -199,18 +200,18 @@ module _ (s : Timers) (o v : ℕ) where
   n = numbered o
 
   -- each timer is asked whether it is the one, or one is sought
-  asked : (f : Timer → Timer) (i : ℕ) → cond (eqb n i) (f (at s i)) (at s i) ≡ cond (eqb i n) (f (at s n)) (at s i)
+  asked : (f : ℕ → Timer → Timer) (i : ℕ) → cond (eqb n i) (f i (at s i)) (at s i) ≡ cond (eqb i n) (f n (at s n)) (at s i)
   asked f i = go (ℕ-discrete i n)
     where
-      go : Dec (i ≡ n) → cond (eqb n i) (f (at s i)) (at s i) ≡ cond (eqb i n) (f (at s n)) (at s i)
-      go (yes q) = rw (eq-eqb n i (sym q), eq-eqb i n q) (ap (λ (k : ℕ). f (at s k)) q)
+      go : Dec (i ≡ n) → cond (eqb n i) (f i (at s i)) (at s i) ≡ cond (eqb i n) (f n (at s n)) (at s i)
+      go (yes q) = rw (eq-eqb n i (sym q), eq-eqb i n q) (ap (λ (k : ℕ). f k (at s k)) q)
       go (no d) = rw (ne-eqb n i (λ e. d (sym e)), ne-eqb i n d)
 
   -- so the block with one timer changed
-  one-each : (f : Timer → Timer) → withTimers s (λ i. cond (eqb n i) (f (at s i)) (at s i)) ≡ withTimer s n (f (at s n))
-  one-each f = ap (withList s) (three-same (λ i. cond (eqb n i) (f (at s i)) (at s i)) (λ i. cond (eqb i n) (f (at s n)) (at s i)) (λ i h. asked f i))
+  one-each : (f : ℕ → Timer → Timer) → withTimers s (λ i. cond (eqb n i) (f i (at s i)) (at s i)) ≡ withTimer s n (f n (at s n))
+  one-each f = ap (withList s) (three-same (λ i. cond (eqb n i) (f i (at s i)) (at s i)) (λ i. cond (eqb i n) (f n (at s n)) (at s i)) (λ i h. asked f i))
 
-  written-each : length (s .timer) ≡ 3 → withTimers s (λ i. timerPut (at s i) (eqb n i) (o % 0x20) v) ≡ timerWritten s o v
+  written-each : length (s .timer) ≡ 3 → withTimers s (λ i. timerPut (maskAt s i) (at s i) (eqb n i) (o % 0x20) v) ≡ timerWritten s o v
   unfolding timerPut timerWritten
   written-each l = go (eqb (o % 0x20) 0) (eqb (o % 0x20) 8)
     where
@@ -218,20 +219,20 @@ module _ (s : Timers) (o v : ℕ) where
       same true t = refl
       same false t = refl
 
-      by : (Timer → Timer) → ℕ → Timer
-      by f i = cond (eqb n i) (f (at s i)) (at s i)
+      by : (ℕ → Timer → Timer) → ℕ → Timer
+      by f i = cond (eqb n i) (f i (at s i)) (at s i)
 
       go :
           (x y : Bool) →
-          withTimers s (by (λ t. cond x (configuredOf t v) (cond y (comparedOf t v) t)))
-          ≡ cond x (withTimer s n (configuredOf (at s n) v)) (cond y (withTimer s n (comparedOf (at s n) v)) s)
-      go true y = one-each (λ t. configuredOf t v)
-      go false true = one-each (λ t. comparedOf t v)
-      go false false = ap (withList s) (three-same (by (λ t. t)) (at s) (λ i h. same (eqb n i) (at s i))) ∙ sym (eta s l)
+          withTimers s (by (λ i t. cond x (configuredOf (maskAt s i) t v) (cond y (comparedOf t v) t)))
+          ≡ cond x (withTimer s n (configuredOf (maskAt s n) (at s n) v)) (cond y (withTimer s n (comparedOf (at s n) v)) s)
+      go true y = one-each (λ i t. configuredOf (maskAt s i) t v)
+      go false true = one-each (λ i t. comparedOf t v)
+      go false false = ap (withList s) (three-same (by (λ i t. t)) (at s) (λ i h. same (eqb n i) (at s i))) ∙ sym (eta s l)
 
   pub written-code :
-      length (s .timer) ≡ 3 → (x0 x1 x2 : Timer) → x0 ≡ timerPut (at s 0) (eqb n 0) (o % 0x20) v → x1 ≡ timerPut (at s 1) (eqb n 1) (o % 0x20) v →
-      x2 ≡ timerPut (at s 2) (eqb n 2) (o % 0x20) v → withList s (x0 ∷ x1 ∷ x2 ∷ []) ≡ timerWritten s o v
+      length (s .timer) ≡ 3 → (x0 x1 x2 : Timer) → x0 ≡ timerPut (maskAt s 0) (at s 0) (eqb n 0) (o % 0x20) v → x1 ≡ timerPut (maskAt s 1) (at s 1) (eqb n 1) (o % 0x20) v →
+      x2 ≡ timerPut (maskAt s 2) (at s 2) (eqb n 2) (o % 0x20) v → withList s (x0 ∷ x1 ∷ x2 ∷ []) ≡ timerWritten s o v
   written-code l x0 x1 x2 e0 e1 e2 = (λ i. withList s (e0 i ∷ e1 i ∷ e2 i ∷ [])) ∙ written-each l
 
 -- ---- a write to a half of a timer's comparator: each timer is asked, as for the whole
@@ -240,4 +241,19 @@ pub half-code :
     (s : Timers) (o : ℕ) (f : Timer → Timer) (x0 x1 x2 : Timer) → x0 ≡ cond (eqb (numbered o) 0) (f (at s 0)) (at s 0) →
     x1 ≡ cond (eqb (numbered o) 1) (f (at s 1)) (at s 1) → x2 ≡ cond (eqb (numbered o) 2) (f (at s 2)) (at s 2) →
     withList s (x0 ∷ x1 ∷ x2 ∷ []) ≡ withTimer s (numbered o) (f (at s (numbered o)))
-half-code s o f x0 x1 x2 e0 e1 e2 = (λ i. withList s (e0 i ∷ e1 i ∷ e2 i ∷ [])) ∙ one-each s o 0 f
+half-code s o f x0 x1 x2 e0 e1 e2 = (λ i. withList s (e0 i ∷ e1 i ∷ e2 i ∷ [])) ∙ one-each s o 0 (λ i. f)
+
+-- ---- the capability register, put together of its parts
+
+pub capabilities-code :
+    (s : Timers) → s .«tick_period» < 2 ^ 32 →
+    bitOr (s .«tick_period» * 4294967296 % 2 ^ 64) (bitOr (bitAnd (s .vendor) 65535 * 65536 % 2 ^ 64) 8705) ≡ capabilitiesOf s
+unfolding capabilitiesOf
+capabilities-code s h =
+    let v = s .vendor % 2 ^ 16 in
+    let l : v < 2 ^ 16 = mod-lt (s .vendor) (lit< tt) in
+    ap (λ (x : ℕ). bitOr (s .«tick_period» * 4294967296 % 2 ^ 64) (bitOr (x * 65536 % 2 ^ 64) 8705)) (and-mask (s .vendor) 16)
+    ∙ ap (λ (x : ℕ). bitOr (s .«tick_period» * 4294967296 % 2 ^ 64) (bitOr x 8705)) (mod-eq-of-lt {n = v * 65536} {m = 2 ^ 64} (omega arith))
+    ∙ ap (bitOr (s .«tick_period» * 4294967296 % 2 ^ 64)) (or-shifted v 16 8705 (lit< tt))
+    ∙ ap (λ (x : ℕ). bitOr x (v * 2 ^ 16 + 0x2201)) (mod-eq-of-lt {n = s .«tick_period» * 4294967296} {m = 2 ^ 64} (omega arith))
+    ∙ or-shifted (s .«tick_period») 32 (v * 2 ^ 16 + 0x2201) (omega arith)

@@ -1,11 +1,14 @@
 -- Well-formedness of the block: from the test to the facts and back, and what keeps it.
 use Prim.Native.Nat.{ℕ, zero, suc, _<_, _≤_}
-use mathlib.Core.Path.{_≡_, refl, ap, _∙_}
+use mathlib.Core.Path.{_≡_, refl, ap, ap₂, _∙_}
 use mathlib.Core.Bool.{Bool, true, false, cond, _&&_}
 use native.Mathlib.Omega.{arith}
 use lib.Dec.{eqb, leb, ltb, lit<, lit≤}
-use borrow.Author.Tests.{leb-true, le-leb, ltb-true}
+use borrow.Author.Tests.{eqb-true, leb-true, le-leb, ltb-true}
 use Rattle.pins.proofs.Bools.{and-left, and-right, and-both}
+use Rattle.settings.specs.declared.Settings.{Settings}
+use Rattle.settings.specs.Settings.{maskOf, inRange}
+use Rattle.settings.proofs.Ranges.{vendor-of, period-of, mask-of}
 use Rattle.timer.specs.declared.Timer.{Timer}
 use Rattle.timer.specs.declared.Half.{Half}
 use Rattle.timer.specs.State.{flag, resetTimer}
@@ -16,8 +19,8 @@ use Rattle.timer.proofs.Formed.{formed-in as timer-in, formed-out as timer-out}
 use Rattle.timer.proofs.Kept.{firing-formed, configured-formed, set-formed, cleared-formed, reset-formed as reset-timer-formed}
 use Rattle.timers.specs.declared.Timers.{Timers}
 use Rattle.timers.specs.declared.Turn.{Turn}
-use Rattle.timers.specs.State.{at, isEnabled, withCounter, withEnabled, withTimers, withTimer, resetTimers}
-use Rattle.timers.specs.Formed.{wellFormed, Formed}
+use Rattle.timers.specs.State.{at, maskAt, isEnabled, withCounter, withEnabled, withTimers, withTimer, resetTo}
+use Rattle.timers.specs.Formed.{settingsFit, wellFormed, Formed}
 use Rattle.timers.specs.Registers.{isConfiguration, isComparator, ofTimer, numbered, aligned, inside, fits, clearedBy, timerWritten, writtenOf}
 use Rattle.timers.specs.Registers.{halfAt, wholeAt, filled, halfWritten, shownOf, storedOf}
 use Rattle.timers.specs.Tick.{countedOf, firedOf, turnedOf, upTo, tick, ticks, routeOf}
@@ -31,49 +34,55 @@ use Rattle.timers.proofs.Each.{by-turn}
 
 module _ (s : Timers) where
   module _ (e : wellFormed s ≡ true) where
-    timers-formed : (timerFormed (at s 0) && (timerFormed (at s 1) && timerFormed (at s 2))) ≡ true
+    rest-formed : (settingsFit (s .vendor) (s .«tick_period») && (timerFormed (maskAt s 0) (at s 0) && (timerFormed (maskAt s 1) (at s 1) && timerFormed (maskAt s 2) (at s 2)))) ≡ true
     unfolding wellFormed
-    timers-formed = and-right (leb (s .enabled) 1) (timerFormed (at s 0) && (timerFormed (at s 1) && timerFormed (at s 2))) e
+    rest-formed = and-right (leb (s .enabled) 1) (settingsFit (s .vendor) (s .«tick_period») && (timerFormed (maskAt s 0) (at s 0) && (timerFormed (maskAt s 1) (at s 1) && timerFormed (maskAt s 2) (at s 2)))) e
+
+    timers-formed : (timerFormed (maskAt s 0) (at s 0) && (timerFormed (maskAt s 1) (at s 1) && timerFormed (maskAt s 2) (at s 2))) ≡ true
+    timers-formed = and-right (settingsFit (s .vendor) (s .«tick_period»)) (timerFormed (maskAt s 0) (at s 0) && (timerFormed (maskAt s 1) (at s 1) && timerFormed (maskAt s 2) (at s 2))) rest-formed
 
     enabled-fits : leb (s .enabled) 1 ≡ true
     unfolding wellFormed
-    enabled-fits = and-left (leb (s .enabled) 1) (timerFormed (at s 0) && (timerFormed (at s 1) && timerFormed (at s 2))) e
+    enabled-fits = and-left (leb (s .enabled) 1) (settingsFit (s .vendor) (s .«tick_period») && (timerFormed (maskAt s 0) (at s 0) && (timerFormed (maskAt s 1) (at s 1) && timerFormed (maskAt s 2) (at s 2)))) e
 
-    pub at-formed : (m : ℕ) → m < 3 → timerFormed (at s m) ≡ true
-    at-formed zero l = and-left (timerFormed (at s 0)) (timerFormed (at s 1) && timerFormed (at s 2)) timers-formed
+    pub settings-fit : settingsFit (s .vendor) (s .«tick_period») ≡ true
+    settings-fit = and-left (settingsFit (s .vendor) (s .«tick_period»)) (timerFormed (maskAt s 0) (at s 0) && (timerFormed (maskAt s 1) (at s 1) && timerFormed (maskAt s 2) (at s 2))) rest-formed
+
+    pub at-formed : (m : ℕ) → m < 3 → timerFormed (maskAt s m) (at s m) ≡ true
+    at-formed zero l = and-left (timerFormed (maskAt s 0) (at s 0)) (timerFormed (maskAt s 1) (at s 1) && timerFormed (maskAt s 2) (at s 2)) timers-formed
     at-formed (suc zero) l =
-        and-left (timerFormed (at s 1)) (timerFormed (at s 2)) (and-right (timerFormed (at s 0)) (timerFormed (at s 1) && timerFormed (at s 2)) timers-formed)
+        and-left (timerFormed (maskAt s 1) (at s 1)) (timerFormed (maskAt s 2) (at s 2)) (and-right (timerFormed (maskAt s 0) (at s 0)) (timerFormed (maskAt s 1) (at s 1) && timerFormed (maskAt s 2) (at s 2)) timers-formed)
     at-formed (suc (suc zero)) l =
-        and-right (timerFormed (at s 1)) (timerFormed (at s 2)) (and-right (timerFormed (at s 0)) (timerFormed (at s 1) && timerFormed (at s 2)) timers-formed)
+        and-right (timerFormed (maskAt s 1) (at s 1)) (timerFormed (maskAt s 2) (at s 2)) (and-right (timerFormed (maskAt s 0) (at s 0)) (timerFormed (maskAt s 1) (at s 1) && timerFormed (maskAt s 2) (at s 2)) timers-formed)
     at-formed (suc (suc (suc m))) l = absurd (omega arith)
 
     pub formed-in : Formed s
-    formed-in = record { enabled-bit = leb-true (s .enabled) 1 enabled-fits; each = λ m l. timer-in (at s m) (at-formed m l) }
+    formed-in = record { enabled-bit = leb-true (s .enabled) 1 enabled-fits; settings-fit = settings-fit; each = λ m l. timer-in (maskAt s m) (at s m) (at-formed m l) }
 
     -- a timer's route is a pin
     pub route-pin : (m : ℕ) → m < 3 → routeOf s m < 24
     unfolding routeOf
-    route-pin m l = timer-in (at s m) (at-formed m l) .route-pin
+    route-pin m l = timer-in (maskAt s m) (at s m) (at-formed m l) .route-pin
 
-  formed-of : leb (s .enabled) 1 ≡ true → ((m : ℕ) → m < 3 → timerFormed (at s m) ≡ true) → wellFormed s ≡ true
+  formed-of : leb (s .enabled) 1 ≡ true → settingsFit (s .vendor) (s .«tick_period») ≡ true → ((m : ℕ) → m < 3 → timerFormed (maskAt s m) (at s m) ≡ true) → wellFormed s ≡ true
   unfolding wellFormed
-  formed-of e f = and-both e (and-both (f 0 (lit< tt)) (and-both (f 1 (lit< tt)) (f 2 (lit< tt))))
+  formed-of e z f = and-both e (and-both z (and-both (f 0 (lit< tt)) (and-both (f 1 (lit< tt)) (f 2 (lit< tt)))))
 
   pub formed-out : Formed s → wellFormed s ≡ true
-  formed-out z = formed-of (le-leb (s .enabled) 1 (z .enabled-bit)) (λ m l. timer-out (at s m) (z .each m l))
+  formed-out z = formed-of (le-leb (s .enabled) 1 (z .enabled-bit)) (z .settings-fit) (λ m l. timer-out (maskAt s m) (at s m) (z .each m l))
 
 -- ---- a block with other timers
 
 module _ (s : Timers) (e : wellFormed s ≡ true) where
-  with-timers-formed : (f : ℕ → Timer) → ((m : ℕ) → m < 3 → timerFormed (f m) ≡ true) → wellFormed (withTimers s f) ≡ true
-  with-timers-formed f h = formed-of (withTimers s f) (enabled-fits s e) (λ m l. ap timerFormed (at-three f _ m l) ∙ h m l)
+  with-timers-formed : (f : ℕ → Timer) → ((m : ℕ) → m < 3 → timerFormed (maskAt s m) (f m) ≡ true) → wellFormed (withTimers s f) ≡ true
+  with-timers-formed f h = formed-of (withTimers s f) (enabled-fits s e) (settings-fit s e) (λ m l. ap (timerFormed (maskAt s m)) (at-three f _ m l) ∙ h m l)
 
-  with-timer-formed : (m : ℕ) (x : Timer) → timerFormed x ≡ true → wellFormed (withTimer s m x) ≡ true
-  with-timer-formed m x h = with-timers-formed (λ i. cond (eqb i m) x (at s i)) (λ j l. go (eqb j m) j l)
+  with-timer-formed : (m : ℕ) (x : Timer) → timerFormed (maskAt s m) x ≡ true → wellFormed (withTimer s m x) ≡ true
+  with-timer-formed m x h = with-timers-formed (λ i. cond (eqb i m) x (at s i)) (λ j l. go (eqb j m) j l refl)
     where
-      go : (b : Bool) (j : ℕ) → j < 3 → timerFormed (cond b x (at s j)) ≡ true
-      go true j l = h
-      go false j l = at-formed s e j l
+      go : (b : Bool) (j : ℕ) → j < 3 → eqb j m ≡ b → timerFormed (maskAt s j) (cond b x (at s j)) ≡ true
+      go true j l q = ap (λ (i : ℕ). timerFormed (maskAt s i) x) (eqb-true j m q) ∙ h
+      go false j l q = at-formed s e j l
 
   -- ---- a tick's steps
 
@@ -83,7 +92,7 @@ module _ (s : Timers) (e : wellFormed s ≡ true) where
 
   pub fired-formed : (m : ℕ) → m < 3 → wellFormed (firedOf s m) ≡ true
   unfolding firedOf
-  fired-formed m l = with-timer-formed m (firing (at s m)) (firing-formed (at s m) (at-formed s e m l))
+  fired-formed m l = with-timer-formed m (firing (at s m)) (firing-formed (maskAt s m) (at s m) (at-formed s e m l))
 
   pub turned-formed : (m : ℕ) → m < 3 → wellFormed (turnedOf s m) ≡ true
   turned-formed m l = by-turn s m (λ u. wellFormed u ≡ true) (λ q. fired-formed m l) (λ q. e)
@@ -108,14 +117,19 @@ ticks-formed (suc n) s e = tick-formed (ticks n s) (ticks-formed n s e)
 
 -- ---- reset, and writes
 
-pub reset-formed : wellFormed resetTimers ≡ true
-unfolding resetTimers
-reset-formed = formed-of resetTimers refl (λ m l. ap timerFormed (at-three (λ i. resetTimer) _ m l) ∙ reset-timer-formed)
+module _ (z : Settings) (e : inRange z ≡ true) where
+  -- with settings in range
+  pub reset-formed : wellFormed (resetTo z) ≡ true
+  unfolding resetTo settingsFit
+  reset-formed =
+      formed-of (resetTo z) refl
+      (and-both (vendor-of z e) (period-of z e))
+      (λ m l. ap₂ timerFormed (at-three (maskOf z) 0 m l) (at-three (λ i. resetTimer (maskOf z i)) _ m l) ∙ reset-timer-formed (maskOf z m) (mask-of z e m))
 
 module _ (s : Timers) (e : wellFormed s ≡ true) (v : ℕ) where
   enabled-formed : wellFormed (withEnabled s (bit 0 v)) ≡ true
   unfolding wellFormed
-  enabled-formed = and-both (le-leb (bit 0 v) 1 (omega arith)) (timers-formed s e)
+  enabled-formed = and-both (le-leb (bit 0 v) 1 (omega arith)) (rest-formed s e)
 
   counter-formed : wellFormed (cond (isEnabled s) s (withCounter s v)) ≡ true
   unfolding wellFormed
@@ -128,8 +142,8 @@ module _ (s : Timers) (e : wellFormed s ≡ true) (v : ℕ) where
   status-formed : wellFormed (withTimers s (clearedBy v s)) ≡ true
   status-formed = with-timers-formed s e (clearedBy v s) (λ m l. go (flag (bit m v)) m l)
     where
-      go : (b : Bool) (m : ℕ) → m < 3 → timerFormed (cond b (clearedOf (at s m)) (at s m)) ≡ true
-      go true m l = cleared-formed (at s m) (at-formed s e m l)
+      go : (b : Bool) (m : ℕ) → m < 3 → timerFormed (maskAt s m) (cond b (clearedOf (at s m)) (at s m)) ≡ true
+      go true m l = cleared-formed (maskAt s m) (at s m) (at-formed s e m l)
       go false m l = at-formed s e m l
 
   timer-written-formed : (o : ℕ) → numbered o < 3 → wellFormed (timerWritten s o v) ≡ true
@@ -139,9 +153,9 @@ module _ (s : Timers) (e : wellFormed s ≡ true) (v : ℕ) where
       n : ℕ
       n = numbered o
 
-      go : (a b : Bool) → wellFormed (cond a (withTimer s n (configuredOf (at s n) v)) (cond b (withTimer s n (comparedOf (at s n) v)) s)) ≡ true
-      go true b = with-timer-formed s e n (configuredOf (at s n) v) (configured-formed (at s n) (at-formed s e n l) v)
-      go false true = with-timer-formed s e n (comparedOf (at s n) v) (set-formed (at s n) (at-formed s e n l) v v)
+      go : (a b : Bool) → wellFormed (cond a (withTimer s n (configuredOf (maskAt s n) (at s n) v)) (cond b (withTimer s n (comparedOf (at s n) v)) s)) ≡ true
+      go true b = with-timer-formed s e n (configuredOf (maskAt s n) (at s n) v) (configured-formed (maskAt s n) (at s n) (at-formed s e n l) v)
+      go false true = with-timer-formed s e n (comparedOf (at s n) v) (set-formed (maskAt s n) (at s n) (at-formed s e n l) v v)
       go false false = e
 
   pub written-formed : (o : ℕ) → wellFormed (writtenOf s o v) ≡ true
@@ -179,7 +193,7 @@ module _ (s : Timers) (e : wellFormed s ≡ true) where
       in-three q = omega (arith, ltb-true o 0x160 (and-right (leb 0x100 o) (ltb o 0x160) (and-left (ofTimer o) (isComparator o) q)))
 
       go : (b : Bool) → (ofTimer o && isComparator o) ≡ b → wellFormed (cond b (withTimer s n (halfComparedOf (at s n) h v)) (writtenOf s o (filled s h o v))) ≡ true
-      go true q = with-timer-formed s e n (halfComparedOf (at s n) h v) (set-formed (at s n) (at-formed s e n (in-three q)) _ _)
+      go true q = with-timer-formed s e n (halfComparedOf (at s n) h v) (set-formed (maskAt s n) (at s n) (at-formed s e n (in-three q)) _ _)
       go false q = written-formed s e (filled s h o v) o
 
   stored-formed : (w o v : ℕ) → wellFormed (storedOf s w o v) ≡ true

@@ -18,10 +18,11 @@ use Rattle.timer.proofs.Compared.{half-once, halves-set, halves-whole-set, narr
 use Rattle.timer.proofs.Compared.{inHalves as timerInHalves}
 use Rattle.timer.proofs.ReadBack.{set-configuration}
 use Rattle.timers.specs.declared.Timers.{Timers}
-use Rattle.timers.specs.State.{at, isEnabled, withCounter, withList, withTimer}
+use Rattle.timers.specs.State.{at, maskAt, isEnabled, withCounter, withList, withTimer}
 use Rattle.timers.specs.Formed.{Formed}
 use Rattle.timers.specs.Registers.{registerOf, writtenOf, halfWritten}
 use Rattle.timers.specs.Tick.{drivesOf}
+use Rattle.timers.proofs.Settings.{kept-mask, half-written-kept}
 use Rattle.timers.proofs.Three.{three-same, at-with, at-same}
 use Rattle.timers.proofs.Access.{read-counter, write-counter}
 use Rattle.timers.proofs.Places.{counter, comparator, configuration-read, comparator-read, comparator-write}
@@ -112,7 +113,7 @@ module _ (s : Timers) (n : ℕ) (l : n < 3) (w : at s n .narrow ≡ 1) where
 
   -- the high half clears bit 6, and that is all
   pub comparator-narrow-high : Formed s → (v : ℕ) → halfWritten s half.High (0x108 + 0x20 * n) v ≡ withTimer s n (withSet (at s n) 0)
-  comparator-narrow-high z v = half-compares s half.High v n l ∙ ap (withTimer s n) (narrow-high (at s n) w (z .each n l) v)
+  comparator-narrow-high z v = half-compares s half.High v n l ∙ ap (withTimer s n) (narrow-high (at s n) w (maskAt s n) (z .each n l) v)
 
   -- low then high is the whole write; high then low, periodic, sets the period only
   pub comparator-narrow-low-first : (v : ℕ) → inHalves s half.Low (0x108 + 0x20 * n) v ≡ writtenOf s (0x108 + 0x20 * n) v
@@ -120,7 +121,7 @@ module _ (s : Timers) (n : ℕ) (l : n < 3) (w : at s n .narrow ≡ 1) where
 
   pub comparator-narrow-high-first :
       Formed s → at s n .periodic ≡ 1 → (v : ℕ) → inHalves s half.High (0x108 + 0x20 * n) v ≡ withTimer s n (withSet (withPeriod (at s n) (v % 2 ^ 32)) 0)
-  comparator-narrow-high-first z e v = by-timer s half.High v n l ∙ ap (withTimer s n) (narrow-high-first (at s n) v w (z .each n l) (ap flag e))
+  comparator-narrow-high-first z e v = by-timer s half.High v n l ∙ ap (withTimer s n) (narrow-high-first (at s n) v w (maskAt s n) (z .each n l) (ap flag e))
 
 -- ---- one half of a comparator
 
@@ -132,8 +133,8 @@ module _ (s : Timers) (z : Formed s) (h : Half) (v n : ℕ) (l : n < 3) where
   pub half-unsets :
       registerOf (halfWritten s h (0x108 + 0x20 * n) v) (0x100 + 0x20 * n) + registerOf s (0x100 + 0x20 * n) / 2 ^ 6 % 2 * 2 ^ 6 ≡ registerOf s (0x100 + 0x20 * n)
   half-unsets =
-      ap₂ (λ (x y : ℕ). x + y / 2 ^ 6 % 2 * 2 ^ 6) (configuration-read n l (halfWritten s h (0x108 + 0x20 * n) v) ∙ ap configurationOf half-compared-at) (configuration-read n l s)
-      ∙ set-configuration (at s n) (z .each n l) _ _
+      ap₂ (λ (x y : ℕ). x + y / 2 ^ 6 % 2 * 2 ^ 6) (configuration-read n l (halfWritten s h (0x108 + 0x20 * n) v) ∙ ap₂ configurationOf (kept-mask (half-written-kept s h (0x108 + 0x20 * n) v) n) half-compared-at) (configuration-read n l s)
+      ∙ set-configuration (maskAt s n) (at s n) (z .each n l) _ _
       ∙ sym (configuration-read n l s)
 
   -- one-shot: that half of the comparator

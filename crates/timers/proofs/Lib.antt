@@ -6,7 +6,7 @@
 --            routes and pulses stay, statuses and wires only rise: turns-, tick-, ticks- with -pulses, -route, -risen, -drives;
 --            firings-zero, firings-suc, first-zero; ran-timers, ran-fired, ran-firsts
 -- Wires      risenOf (a firing moves no wire but by a pulse); counted- and fired- with -pulses, -route, -drives..; fired-risen, fired-risen-kept,
---            fired-drives-same, fired-drives-more, fired-matches, pulses-risen
+--            fired-drives-same, fired-drives-more, fired-matches, pulses-risen; reset-drives
 -- First      first firings: first-le, first-kept, first-later, fires-first, first-fires, first-add
 -- Formed     formed-in, formed-out, at-formed, route-pin; kept by counted-, fired-, turned-, turns-, tick-, ticks-, written-, writing-formed,
 --            reset-formed; reading-timers, read-timers
@@ -24,9 +24,12 @@
 -- Runs       SameBut, ticks-alike, firings-alike
 -- Each       each timer goes by itself: tick-on, tick-off, ticks-zero, ticks-suc, ticks-enabled, ticks-counter, ticks-at, fired-enabled, ..-three
 -- Three      lists of three: at-three, three-same, of-three
+-- Settings   Kept: no write, no tick changes the settings: written-, half-written-, writing-, ticks-kept;
+--            capabilities-fit
 -- Whole      the block's answer from its timers'
 pub mod Three
 pub mod Each
+pub mod Settings
 pub mod Whole
 pub mod Access
 pub mod Wires

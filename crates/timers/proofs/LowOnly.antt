@@ -15,7 +15,7 @@ use Rattle.timer.specs.Registers.{bit, configuredOf, comparedOf, clearedOf}
 use Rattle.timer.proofs.ReadBack.{flag-is}
 use Rattle.timer.proofs.Rewritten.{configured-low, configured-high}
 use Rattle.timers.specs.declared.Timers.{Timers}
-use Rattle.timers.specs.State.{at, isEnabled, withCounter, withEnabled, withList, withTimers, withTimer}
+use Rattle.timers.specs.State.{at, maskAt, isEnabled, withCounter, withEnabled, withList, withTimers, withTimer}
 use Rattle.timers.specs.Formed.{Formed}
 use Rattle.timers.specs.Registers.{numbered, ofTimer, isConfiguration, isComparator, registerOf, clearedBy, timerWritten, writtenOf, halfWritten}
 use Rattle.timers.proofs.Three.{three-same, eta}
@@ -90,12 +90,12 @@ module _ (s : Timers) (z : Formed s) where
       record {
         low = λ v w e. half-replaces s half.Low v (0x100 + 0x20 * n) (λ q. omega arith) (λ m g q. omega arith)
             ∙ configuration-write n l s _
-            ∙ ap (withTimer s n) (configured-low (at s n) (registerOf s (0x100 + 0x20 * n)) v w e)
+            ∙ ap (withTimer s n) (configured-low (maskAt s n) (at s n) (registerOf s (0x100 + 0x20 * n)) v w e)
             ∙ sym (configuration-write n l s w);
         high = λ size v. half-replaces s half.High v (0x100 + 0x20 * n) (λ q. omega arith) (λ m g q. omega arith)
             ∙ configuration-write n l s _
-            ∙ ap (λ (x : ℕ). withTimer s n (configuredOf (at s n) (replaced half.High x v))) (configuration-read n l s)
-            ∙ ap (withTimer s n) (configured-high (at s n) (z .each n l) v)
+            ∙ ap (λ (x : ℕ). withTimer s n (configuredOf (maskAt s n) (at s n) (replaced half.High x v))) (configuration-read n l s)
+            ∙ ap (withTimer s n) (configured-high (maskAt s n) (at s n) (z .each n l) v)
             ∙ with-same s size n;
       }
 
@@ -134,7 +134,7 @@ written-three s o v size = go (eqb o 0x010) (eqb o 0x020) (eqb o 0x0F0) (isEnabl
         (cond a (withEnabled s (bit 0 v))
         (cond b (withTimers s (clearedBy v s))
         (cond c (cond d s (withCounter s v))
-        (cond e (cond f (withTimer s n (configuredOf (at s n) v)) (cond g (withTimer s n (comparedOf (at s n) v)) s)) s)))
+        (cond e (cond f (withTimer s n (configuredOf (maskAt s n) (at s n) v)) (cond g (withTimer s n (comparedOf (at s n) v)) s)) s)))
         .timer)
         ≡ 3
     go true b c d e f g = size

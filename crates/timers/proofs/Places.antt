@@ -6,7 +6,7 @@ use native.Mathlib.Decide.{decLt, ℕ-discrete}
 use borrow.Author.Tests.{ne-eqb}
 use Rattle.timer.specs.Registers.{configurationOf, configuredOf, comparedOf}
 use Rattle.timers.specs.declared.Timers.{Timers}
-use Rattle.timers.specs.State.{at, withTimer}
+use Rattle.timers.specs.State.{at, maskAt, withTimer}
 use Rattle.timers.specs.Registers.{numbered, timerRegister, registerOf, timerWritten, writtenOf}
 use Rattle.timers.proofs.Access.{read-below, read-above, read-timer, write-below, write-above, write-timer}
 
@@ -26,7 +26,7 @@ module _ (n : ℕ) (l : n < 3) where
   place-8 = omega arith
 
   module _ (s : Timers) where
-    pub configuration-read : registerOf s (0x100 + 0x20 * n) ≡ configurationOf (at s n)
+    pub configuration-read : registerOf s (0x100 + 0x20 * n) ≡ configurationOf (maskAt s n) (at s n)
     unfolding timerRegister
     configuration-read =
         read-timer s (0x100 + 0x20 * n) (λ q. omega arith) (λ q. omega arith) (λ q. omega arith) (λ q. omega arith) (omega arith) (omega arith)
@@ -39,7 +39,7 @@ module _ (n : ℕ) (l : n < 3) where
         ∙ rw (place-8, at-comparator)
 
     module _ (v : ℕ) where
-      pub configuration-write : writtenOf s (0x100 + 0x20 * n) v ≡ withTimer s n (configuredOf (at s n) v)
+      pub configuration-write : writtenOf s (0x100 + 0x20 * n) v ≡ withTimer s n (configuredOf (maskAt s n) (at s n) v)
       unfolding timerWritten
       configuration-write =
           write-timer s (0x100 + 0x20 * n) (λ q. omega arith) (λ q. omega arith) (λ q. omega arith) v (omega arith) (omega arith)

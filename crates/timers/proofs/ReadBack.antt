@@ -4,18 +4,20 @@ use mathlib.Core.Path.{_≡_, refl, sym, ap, ap₂, _∙_}
 use mathlib.Core.Bool.{Bool, true, false, cond}
 use native.Mathlib.Omega.{arith}
 use native.Mathlib.Nat.{mod-lt, mul-one, mul-zero}
-use lib.Dec.{eqb, ltb, lit<}
+use lib.Dec.{eqb, lit<}
 use mir.Val.{boolByte}
 use borrow.Author.Tests.{eqb-true}
 use Rattle.timer.specs.declared.Timer.{Timer}
 use Rattle.timer.specs.State.{flag}
+use Rattle.timer.specs.Mask.{inMask}
 use Rattle.timer.specs.Registers.{bit, configurationOf, configuredOf, comparedOf, clearedOf}
 use Rattle.timer.proofs.ReadBack.{fields, flag-is, cleared-status, configured-comparator, set-configuration, configured-status, one-shot-back, set-back, period-back}
 use Rattle.timer.proofs.ReadBack.{configuration-back as timer-configuration-back}
 use Rattle.timers.specs.declared.Timers.{Timers}
-use Rattle.timers.specs.State.{at, isEnabled, withCounter, withEnabled, withTimers}
+use Rattle.timers.specs.State.{at, maskAt, isEnabled, withCounter, withEnabled, withTimers}
 use Rattle.timers.specs.Formed.{Formed}
 use Rattle.timers.specs.Registers.{statusOf, registerOf, clearedBy, writtenOf}
+use Rattle.timers.proofs.Settings.{kept-mask, written-kept}
 use Rattle.timers.proofs.Three.{at-with, at-same}
 use Rattle.timers.proofs.Access.{read-enabled, read-status, read-counter, write-enabled, write-status, write-counter}
 use Rattle.timers.proofs.Places.{status, comparator, configuration-read, comparator-read, configuration-write, comparator-write}
@@ -116,23 +118,23 @@ module _ (s : Timers) (z : Formed s) (n : ℕ) (l : n < 3) (v : ℕ) where
   abbrev now : ℕ
   now = registerOf s (0x100 + 0x20 * n)
 
-  was : configurationOf t ≡ now
+  was : configurationOf (maskAt s n) t ≡ now
   was = sym (configuration-read n l s)
 
-  configured-at : at (writtenOf s (0x100 + 0x20 * n) v) n ≡ configuredOf t v
-  configured-at = ap (λ (y : Timers). at y n) (configuration-write n l s v) ∙ at-same s n (configuredOf t v) l
+  configured-at : at (writtenOf s (0x100 + 0x20 * n) v) n ≡ configuredOf (maskAt s n) t v
+  configured-at = ap (λ (y : Timers). at y n) (configuration-write n l s v) ∙ at-same s n (configuredOf (maskAt s n) t v) l
 
   compared-at : at (writtenOf s (0x108 + 0x20 * n) v) n ≡ comparedOf t v
   compared-at = ap (λ (y : Timers). at y n) (comparator-write n l s v) ∙ at-same s n (comparedOf t v) l
 
   pub configuration-back :
       registerOf (writtenOf s (0x100 + 0x20 * n) v) (0x100 + 0x20 * n)
-      ≡ fields (cond (ltb (v / 2 ^ 9 % 2 ^ 5) 24) (v / 2 ^ 9 % 2 ^ 5) (now / 2 ^ 9 % 2 ^ 5)) (bit 8 v) (bit 3 v * bit 6 v) (bit 3 v) (bit 2 v) (bit 1 v)
+      ≡ fields (maskAt s n) (cond (inMask (maskAt s n) (v / 2 ^ 9 % 2 ^ 5)) (v / 2 ^ 9 % 2 ^ 5) (now / 2 ^ 9 % 2 ^ 5)) (bit 8 v) (bit 3 v * bit 6 v) (bit 3 v) (bit 2 v) (bit 1 v)
   configuration-back =
       configuration-read n l (writtenOf s (0x100 + 0x20 * n) v)
-      ∙ ap configurationOf configured-at
-      ∙ timer-configuration-back t (z .each n l) v
-      ∙ ap (λ (x : ℕ). fields (cond (ltb (v / 2 ^ 9 % 2 ^ 5) 24) (v / 2 ^ 9 % 2 ^ 5) (x / 2 ^ 9 % 2 ^ 5)) (bit 8 v) (bit 3 v * bit 6 v) (bit 3 v) (bit 2 v) (bit 1 v)) was
+      ∙ ap₂ configurationOf (kept-mask (written-kept s (0x100 + 0x20 * n) v) n) configured-at
+      ∙ timer-configuration-back (maskAt s n) t (z .each n l) v
+      ∙ ap (λ (x : ℕ). fields (maskAt s n) (cond (inMask (maskAt s n) (v / 2 ^ 9 % 2 ^ 5)) (v / 2 ^ 9 % 2 ^ 5) (x / 2 ^ 9 % 2 ^ 5)) (bit 8 v) (bit 3 v * bit 6 v) (bit 3 v) (bit 2 v) (bit 1 v)) was
 
   -- "Writing 32-bit mode reduces comparator and period modulo 2^32."
   pub configuration-reduces :
@@ -141,7 +143,7 @@ module _ (s : Timers) (z : Formed s) (n : ℕ) (l : n < 3) (v : ℕ) where
   configuration-reduces =
       comparator-read n l (writtenOf s (0x100 + 0x20 * n) v)
       ∙ ap (λ (x : Timer). x .comparator) configured-at
-      ∙ configured-comparator t (z .each n l) v
+      ∙ configured-comparator (maskAt s n) t (z .each n l) v
       ∙ ap (λ (x : ℕ). cond (eqb (bit 8 v) 1) (x % 2 ^ 32) x) (sym (comparator-read n l s))
 
   -- "Writing edge type clears the status."
@@ -152,7 +154,7 @@ module _ (s : Timers) (z : Formed s) (n : ℕ) (l : n < 3) (v : ℕ) where
   configuration-status m h =
       status-bit (writtenOf s (0x100 + 0x20 * n) v) m h
       ∙ ap (λ (x : Timers). st x m) (configuration-write n l s v)
-      ∙ ap (λ (x : Timer). boolByte (flag (x .status))) (at-with s n (configuredOf t v) m h)
+      ∙ ap (λ (x : Timer). boolByte (flag (x .status))) (at-with s n (configuredOf (maskAt s n) t v) m h)
       ∙ go (eqb m n) refl
       ∙ ap (λ (x : ℕ). cond (eqb m n) (cond (eqb (bit 1 v) 1) x 0) x) (sym (status-bit s m h))
     where
@@ -160,9 +162,9 @@ module _ (s : Timers) (z : Formed s) (n : ℕ) (l : n < 3) (v : ℕ) where
       level true x = refl
       level false x = refl
 
-      go : (b : Bool) → eqb m n ≡ b → boolByte (flag (cond b (configuredOf t v) (at s m) .status)) ≡ cond b (cond (eqb (bit 1 v) 1) (st s m) 0) (st s m)
+      go : (b : Bool) → eqb m n ≡ b → boolByte (flag (cond b (configuredOf (maskAt s n) t v) (at s m) .status)) ≡ cond b (cond (eqb (bit 1 v) 1) (st s m) 0) (st s m)
       go true e =
-          ap (λ (x : ℕ). boolByte (flag x)) (configured-status t (z .each n l) v)
+          ap (λ (x : ℕ). boolByte (flag x)) (configured-status (maskAt s n) t (z .each n l) v)
           ∙ level (eqb (bit 1 v) 1) (t .status)
           ∙ ap (λ (k : ℕ). cond (eqb (bit 1 v) 1) (st s k) 0) (sym (eqb-true m n e))
       go false e = refl
@@ -170,25 +172,25 @@ module _ (s : Timers) (z : Formed s) (n : ℕ) (l : n < 3) (v : ℕ) where
   compared-read : (x : ℕ) → comparedOf t v .comparator ≡ x → registerOf (writtenOf s (0x108 + 0x20 * n) v) (0x108 + 0x20 * n) ≡ x
   compared-read x e = comparator-read n l (writtenOf s (0x108 + 0x20 * n) v) ∙ ap (λ (y : Timer). y .comparator) compared-at ∙ e
 
-  taken : cond (eqb (configurationOf t / 2 ^ 8 % 2) 1) (v % 2 ^ 32) v ≡ cond (eqb (now / 2 ^ 8 % 2) 1) (v % 2 ^ 32) v
+  taken : cond (eqb (configurationOf (maskAt s n) t / 2 ^ 8 % 2) 1) (v % 2 ^ 32) v ≡ cond (eqb (now / 2 ^ 8 % 2) 1) (v % 2 ^ 32) v
   taken = ap (λ (x : ℕ). cond (eqb (x / 2 ^ 8 % 2) 1) (v % 2 ^ 32) v) was
 
   -- "One-shot: the write sets it."
   pub comparator-one-shot : now / 2 ^ 3 % 2 ≡ 0 → registerOf (writtenOf s (0x108 + 0x20 * n) v) (0x108 + 0x20 * n) ≡ cond (eqb (now / 2 ^ 8 % 2) 1) (v % 2 ^ 32) v
-  comparator-one-shot e = compared-read _ (one-shot-back t (z .each n l) v v (ap (λ (x : ℕ). x / 2 ^ 3 % 2) was ∙ e) ∙ taken)
+  comparator-one-shot e = compared-read _ (one-shot-back (maskAt s n) t (z .each n l) v v (ap (λ (x : ℕ). x / 2 ^ 3 % 2) was ∙ e) ∙ taken)
 
   -- "Periodic: the write sets the period, and also the comparator if bit 6 is 1"
   pub comparator-set : now / 2 ^ 6 % 2 ≡ 1 → registerOf (writtenOf s (0x108 + 0x20 * n) v) (0x108 + 0x20 * n) ≡ cond (eqb (now / 2 ^ 8 % 2) 1) (v % 2 ^ 32) v
-  comparator-set e = compared-read _ (set-back t (z .each n l) v v (ap (λ (x : ℕ). x / 2 ^ 6 % 2) was ∙ e) ∙ taken)
+  comparator-set e = compared-read _ (set-back (maskAt s n) t (z .each n l) v v (ap (λ (x : ℕ). x / 2 ^ 6 % 2) was ∙ e) ∙ taken)
 
   pub comparator-kept : now / 2 ^ 3 % 2 ≡ 1 → now / 2 ^ 6 % 2 ≡ 0 → registerOf (writtenOf s (0x108 + 0x20 * n) v) (0x108 + 0x20 * n) ≡ registerOf s (0x108 + 0x20 * n)
   comparator-kept e f =
       compared-read _
-      (period-back t (z .each n l) v v (ap (λ (x : ℕ). x / 2 ^ 3 % 2) was ∙ e) (ap (λ (x : ℕ). x / 2 ^ 6 % 2) was ∙ f) ∙ sym (comparator-read n l s))
+      (period-back (maskAt s n) t (z .each n l) v v (ap (λ (x : ℕ). x / 2 ^ 3 % 2) was ∙ e) (ap (λ (x : ℕ). x / 2 ^ 6 % 2) was ∙ f) ∙ sym (comparator-read n l s))
 
   -- "bit 6 then becomes 0", and the other bits of the configuration stay
   pub comparator-unsets : registerOf (writtenOf s (0x108 + 0x20 * n) v) (0x100 + 0x20 * n) + now / 2 ^ 6 % 2 * 2 ^ 6 ≡ now
   comparator-unsets =
-      ap₂ (λ (x y : ℕ). x + y / 2 ^ 6 % 2 * 2 ^ 6) (configuration-read n l (writtenOf s (0x108 + 0x20 * n) v) ∙ ap configurationOf compared-at) (sym was)
-      ∙ set-configuration t (z .each n l) v v
+      ap₂ (λ (x y : ℕ). x + y / 2 ^ 6 % 2 * 2 ^ 6) (configuration-read n l (writtenOf s (0x108 + 0x20 * n) v) ∙ ap₂ configurationOf (kept-mask (written-kept s (0x108 + 0x20 * n) v) n) compared-at) (sym was)
+      ∙ set-configuration (maskAt s n) t (z .each n l) v v
       ∙ was

@@ -10,7 +10,7 @@ use Rattle.timer.specs.declared.Half.{Half}
 use Rattle.timer.specs.Halves.{replaced}
 use Rattle.timer.specs.Registers.{configurationOf, halfComparedOf}
 use Rattle.timers.specs.declared.Timers.{Timers}
-use Rattle.timers.specs.State.{at, withTimer}
+use Rattle.timers.specs.State.{at, maskAt, withTimer}
 use Rattle.timers.specs.Registers.{aligned, fits, numbered, ofTimer, isComparator, registerOf, writtenOf, halfAt, wholeAt, filled, halfWritten, shownOf, storedOf}
 use Rattle.timers.specs.Inner.{besideOf, filledBy}
 use Rattle.timers.proofs.Access.{aligned-whole, aligned-half, read-enabled, read-counter, shown-whole, stored-whole, stored-half}
@@ -54,11 +54,11 @@ module _ (s : Timers) (h : Half) (o v : ℕ) where
 
 -- ---- what stands beside a half, as the code looks for it
 
-beside-configuration : (s : Timers) (n : ℕ) → n < 3 → besideOf s (0x100 + 0x20 * n) ≡ configurationOf (at s n)
+beside-configuration : (s : Timers) (n : ℕ) → n < 3 → besideOf s (0x100 + 0x20 * n) ≡ configurationOf (maskAt s n) (at s n)
 unfolding besideOf
 beside-configuration s n l =
     rw (ne-eqb (0x100 + 0x20 * n) 0x0F0 (λ q. omega arith), ne-eqb (0x100 + 0x20 * n) 0x010 (λ q. omega arith), le-ltb (0x100 + 0x20 * n) 0x100 (omega arith))
-    (ap (λ (m : ℕ). configurationOf (at s m)) here)
+    (ap (λ (m : ℕ). configurationOf (maskAt s m) (at s m)) here)
   where
     here : numbered (0x100 + 0x20 * n) ≡ n
     here = omega arith

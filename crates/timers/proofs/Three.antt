@@ -45,10 +45,10 @@ pub eta : (s : Timers) → length (s .timer) ≡ 3 → s ≡ withTimers s (at s)
 eta s e = ap (withList s) (of-three (s .timer) blank e)
 
 -- past the last there is none
-pub beyond : (l : List Timer) (m : ℕ) → length l ≡ 3 → 3 ≤ m → getD l m blank ≡ blank
-beyond l m e h = ap (λ (k : List Timer). getD k m blank) (of-three l blank e) ∙ go m h
+pub beyond : {A : Type 0} (l : List A) (z : A) (m : ℕ) → length l ≡ 3 → 3 ≤ m → getD l m z ≡ z
+beyond {A = A} l z m e h = ap (λ (k : List A). getD k m z) (of-three l z e) ∙ go m h
   where
-    go : (m : ℕ) → 3 ≤ m → getD (three (λ i. getD l i blank)) m blank ≡ blank
+    go : (m : ℕ) → 3 ≤ m → getD (three (λ i. getD l i z)) m z ≡ z
     go zero h = absurd (omega arith)
     go (suc zero) h = absurd (omega arith)
     go (suc (suc zero)) h = absurd (omega arith)

@@ -14,6 +14,7 @@ use Rattle.timers.specs.State.{three, at, isEnabled, withCounter, withEn
 use Rattle.timers.specs.Tick.{ticks, firings}
 use Rattle.timers.specs.Inner.{first, ran, ranOf}
 use Rattle.timers.proofs.Three.{three-same, eta}
+use Rattle.timers.proofs.Settings.{ticks-kept}
 use Rattle.timers.proofs.Each.{ticks-off, firings-off, first-off, ticks-enabled, ticks-three, ticks-counter, ticks-at, firings-on, first-on}
 
 -- disabled
@@ -33,7 +34,14 @@ module _ (s : Timers) (n : ℕ) (on : isEnabled s ≡ true) (fits : s .counter <
   ticks-whole : ticks n s ≡ block s (after n (s .counter)) (s .enabled) (three (λ m. alone n (s .counter) (at s m)))
   ticks-whole =
       eta (ticks n s) (ticks-three n s size)
-      ∙ (λ i. block s (ticks-counter s on fits n i) (ticks-enabled n s i) (three-same (at (ticks n s)) (λ m. alone n (s .counter) (at s m)) (λ m l. ticks-at s on fits m n l) i))
+      ∙ (λ i. record {
+        counter = ticks-counter s on fits n i;
+        «tick_period» = ticks-kept n s .period i;
+        vendor = ticks-kept n s .vendor i;
+        masks = ticks-kept n s .masks i;
+        enabled = ticks-enabled n s i;
+        timer = three-same (at (ticks n s)) (λ m. alone n (s .counter) (at s m)) (λ m l. ticks-at s on fits m n l) i;
+      })
 
   -- enabled: each timer by itself
   pub ran-on :

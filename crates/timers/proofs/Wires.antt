@@ -12,7 +12,8 @@ use Rattle.timer.specs.Tick.{meets, firing, pulsing, driving}
 use Rattle.timer.specs.Inner.{raising, holding}
 use Rattle.timer.proofs.Wire.{risen, firing-route, firing-pulsing, firing-raising, firing-risen, pulsing-risen, driving-pin, driving-same, driving-fired, driving-more}
 use Rattle.timers.specs.declared.Timers.{Timers}
-use Rattle.timers.specs.State.{at, isEnabled}
+use Rattle.settings.specs.declared.Settings.{Settings}
+use Rattle.timers.specs.State.{resetTo, at, isEnabled}
 use Rattle.timers.specs.Tick.{countedOf, matchesOf, firedOf, drivesOf, pulsesOf, routeOf}
 use Rattle.timers.specs.Inner.{drivenOf, raisesOf}
 use Rattle.timers.proofs.Each.{fired-counter, fired-enabled, fired-same, fired-other}
@@ -49,6 +50,11 @@ module _ (s s' : Timers) (p : ℕ) (e : s' .enabled ≡ s .enabled) where
       (or-more (driving (at s 0) p) (driving (at s' 0) p) (driving (at s 1) p || driving (at s 2) p) (driving (at s' 1) p || driving (at s' 2) p) (f 0 (lit< tt))
       (or-more (driving (at s 1) p) (driving (at s' 1) p) (driving (at s 2) p) (driving (at s' 2) p) (f 1 (lit< tt)) (f 2 (lit< tt))))
       q
+
+-- a block that was reset drives nothing
+pub reset-drives : (z : Settings) (p : ℕ) → drivesOf (resetTo z) p ≡ false
+unfolding drivesOf resetTo
+reset-drives z p = refl
 
 -- of a pin below 24: it is one that a timer drives
 pub drives-pin : (s : Timers) (p : ℕ) → p < 24 → drivesOf s p ≡ (eqb (drivenOf s 0) p || (eqb (drivenOf s 1) p || eqb (drivenOf s 2) p))

@@ -10,7 +10,7 @@ use Rattle.timer.specs.Registers.{configurationOf, configuredOf, comparedOf}
 use Rattle.timer.specs.Inner.{raising, holding}
 use Rattle.timers.specs.declared.Timers.{Timers}
 use Rattle.timers.specs.declared.Ran.{Ran}
-use Rattle.timers.specs.State.{three, at, isEnabled}
+use Rattle.timers.specs.State.{three, at, maskAt, isEnabled}
 use Rattle.timers.specs.Registers.{numbered}
 use Rattle.timers.specs.Tick.{firesIn, ticks, firings}
 
@@ -40,15 +40,15 @@ raisesOf s m = raising (at s m)
 -- ---- registers
 
 -- one timer after a write to a place among its registers, `hit` being whether it is the one that is written
-unfoldable pub timerPut : Timer → Bool → ℕ → ℕ → Timer
-timerPut t hit place v = cond hit (cond (eqb place 0) (configuredOf t v) (cond (eqb place 8) (comparedOf t v) t)) t
+unfoldable pub timerPut : ℕ → Timer → Bool → ℕ → ℕ → Timer
+timerPut mask t hit place v = cond hit (cond (eqb place 0) (configuredOf mask t v) (cond (eqb place 8) (comparedOf t v) t)) t
 
 -- what stands beside a half that is written, where it counts: the counter, the enable bit, a timer's configuration
 unfoldable pub besideOf : Timers → ℕ → ℕ
 besideOf s offset =
     cond (eqb offset 0x0F0) (s .counter)
     (cond (eqb offset 0x010) (boolByte (isEnabled s))
-    (cond (ltb offset 0x100) 0 (configurationOf (at s (numbered offset)))))
+    (cond (ltb offset 0x100) 0 (configurationOf (maskAt s (numbered offset)) (at s (numbered offset)))))
 
 abbrev pub filledBy : Timers → Half → ℕ → ℕ → ℕ
 filledBy s h offset v = replaced h (cond (eqb offset 0x020) 0 (besideOf s offset)) v

@@ -1,5 +1,5 @@
 -- "Timer registers": what each offset reads, and what a write to it does.
-use Prim.Native.Nat.{ℕ, _+_, _-_, _/_, _%_, _^_}
+use Prim.Native.Nat.{ℕ, _+_, _-_, _*_, _/_, _%_, _^_}
 use mathlib.Core.Bool.{Bool, cond, not, _&&_, _||_}
 use lib.Dec.{eqb, leb, ltb}
 use mir.Val.{boolByte}
@@ -10,7 +10,7 @@ use Rattle.timer.specs.State.{flag}
 use Rattle.timer.specs.Halves.{halfOf, replaced}
 use Rattle.timer.specs.Registers.{bit, placed, configurationOf, configuredOf, comparedOf, halfComparedOf, clearedOf}
 use Rattle.timers.specs.declared.Timers.{Timers}
-use Rattle.timers.specs.State.{at, isEnabled, withCounter, withEnabled, withTimers, withTimer}
+use Rattle.timers.specs.State.{at, maskAt, isEnabled, withCounter, withEnabled, withTimers, withTimer}
 
 -- ---- which accesses there are
 
@@ -44,21 +44,25 @@ isComparator offset = eqb (offset % 0x20) 8
 
 -- ---- reading
 
+-- 0x000: the tick period in bits 63:32, the vendor in bits 31:16; below them 64-bit counter, three timers, revision 1
+unfoldable pub capabilitiesOf : Timers → ℕ
+capabilitiesOf s = s .«tick_period» * 2 ^ 32 + (s .vendor % 2 ^ 16 * 2 ^ 16 + 0x2201)
+
 -- 0x020: bit n is timer n's status. Other bits read 0
 unfoldable pub statusOf : Timers → ℕ
 statusOf s = placed 2 (at s 2 .status) + (placed 1 (at s 1 .status) + placed 0 (at s 0 .status))
 
-unfoldable pub timerRegister : Timer → ℕ → ℕ
-timerRegister t offset = cond (isConfiguration offset) (configurationOf t) (cond (isComparator offset) (t .comparator) 0)
+unfoldable pub timerRegister : ℕ → Timer → ℕ → ℕ
+timerRegister mask t offset = cond (isConfiguration offset) (configurationOf mask t) (cond (isComparator offset) (t .comparator) 0)
 
 -- offsets not listed read 0
 unfoldable pub registerOf : Timers → ℕ → ℕ
 registerOf s offset =
-    cond (eqb offset 0x000) 0x05F5E10080862201
+    cond (eqb offset 0x000) (capabilitiesOf s)
     (cond (eqb offset 0x010) (boolByte (isEnabled s))
     (cond (eqb offset 0x020) (statusOf s)
     (cond (eqb offset 0x0F0) (s .counter)
-    (cond (ofTimer offset) (timerRegister (at s (numbered offset)) offset) 0))))
+    (cond (ofTimer offset) (timerRegister (maskAt s (numbered offset)) (at s (numbered offset)) offset) 0))))
 
 -- ---- writing a whole register
 
@@ -69,7 +73,7 @@ clearedBy v s m = cond (flag (bit m v)) (clearedOf (at s m)) (at s m)
 unfoldable pub timerWritten : Timers → ℕ → ℕ → Timers
 timerWritten s offset v =
     let n = numbered offset in
-    cond (isConfiguration offset) (withTimer s n (configuredOf (at s n) v)) (cond (isComparator offset) (withTimer s n (comparedOf (at s n) v)) s)
+    cond (isConfiguration offset) (withTimer s n (configuredOf (maskAt s n) (at s n) v)) (cond (isComparator offset) (withTimer s n (comparedOf (at s n) v)) s)
 
 -- 0x010: bit 0 enable; 0x0F0: a write while enabled is ignored; offsets not listed ignore writes
 unfoldable pub writtenOf : Timers → ℕ → ℕ → Timers

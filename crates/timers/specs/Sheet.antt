@@ -4,14 +4,17 @@ use mathlib.Core.Path.{_≡_, refl}
 use mathlib.Core.List.{List, [], _∷_, map}
 use Rattle.answers.specs.declared.Answer.{Answer}
 use Rattle.answers.specs.Sheet.{ok, value, fired}
+use Rattle.pins.specs.Pins.{firstFrom}
+use Rattle.settings.specs.Settings.{vendorOk, periodOk, maskOk}
+use Rattle.timer.specs.Mask.{inMask, lowest}
 use Rattle.timer.specs.State.{resetTimer}
 use Rattle.timer.specs.Formed.{flagsFit, narrowFits, timerFormed}
 use Rattle.timer.specs.Registers.{configurationOf, configuredOf, setOf, clearedOf}
 use Rattle.timer.specs.Tick.{meets, firing}
 use Rattle.timers.specs.declared.Timers.{Timers}
-use Rattle.timers.specs.State.{resetTimers}
-use Rattle.timers.specs.Formed.{wellFormed}
-use Rattle.timers.specs.Registers.{statusOf, timerRegister, registerOf, timerWritten, writtenOf, shownOf, storedOf}
+use Rattle.timers.specs.State.{resetTo, resetTimers}
+use Rattle.timers.specs.Formed.{settingsFit, wellFormed}
+use Rattle.timers.specs.Registers.{capabilitiesOf, statusOf, timerRegister, registerOf, timerWritten, writtenOf, shownOf, storedOf}
 use Rattle.timers.specs.Tick.{countedOf, matchesOf, firedOf, turnedOf, upTo, tick, firesIn, ticks, firings}
 use Rattle.timers.specs.Call.{readingOf, writingOf, advancingOf, readOf, writeOf, advanceOf}
 use Rattle.timers.specs.Calls.{Call, read, write, advance, turnOf}
@@ -70,5 +73,5 @@ sheet =
     ∷ []
 
 pub bench : map (λ (l : Line). run resetTimers (l .calls)) sheet ≡ map (λ (l : Line). l .answers) sheet
-unfolding run sheet turnOf resetTimer flagsFit narrowFits timerFormed configurationOf configuredOf setOf clearedOf meets firing resetTimers wellFormed statusOf timerRegister registerOf timerWritten writtenOf shownOf storedOf countedOf matchesOf firedOf turnedOf upTo tick firesIn ticks firings readingOf writingOf advancingOf readOf writeOf advanceOf
+unfolding run sheet turnOf resetTimer flagsFit narrowFits timerFormed configurationOf configuredOf setOf clearedOf meets firing lowest inMask firstFrom maskOk vendorOk periodOk resetTo settingsFit wellFormed capabilitiesOf statusOf timerRegister registerOf timerWritten writtenOf shownOf storedOf countedOf matchesOf firedOf turnedOf upTo tick firesIn ticks firings readingOf writingOf advancingOf readOf writeOf advanceOf
 bench = refl

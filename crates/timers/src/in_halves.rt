@@ -57,7 +57,7 @@ impl Timers {
             return 0;
         }
         let m = ((offset - Timers::TIMERS) / Timers::STEP) as usize;
-        self.at(m).configuration()
+        self.at(m).configuration(self.mask_at(m))
     }
 
     // The number that a half write gives to the rule for the whole register.
@@ -102,11 +102,9 @@ impl Timers {
         let x0 = put_half(t0, m == 0, half, value);
         let x1 = put_half(t1, m == 1, half, value);
         let x2 = put_half(t2, m == 2, half, value);
-        Timers {
-            counter: self.counter,
-            enabled: self.enabled,
-            timer: [x0, x1, x2],
-        }
+        let mut next = self;
+        next.timer = [x0, x1, x2];
+        next
     }
 
     // A write that is allowed. `written` stands here once for both widths, so that it stays a part of the call.

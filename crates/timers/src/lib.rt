@@ -1,4 +1,4 @@
-// The timer block: three timers and their counter, by value.
+// The timer block: its settings, three timers and their counter, by value.
 mod in_halves;
 mod tick;
 mod window;
@@ -7,19 +7,26 @@ ghost use mathlib.Core.Path.{_≡_};
 ghost use mathlib.Core.Bool.{cond};
 ghost use Rattle.timer.specs.State.{flag};
 ghost use Rattle.timer.specs.Registers.{clearedOf, halfComparedOf};
-ghost use Rattle.timers.specs.State.{at, resetTimers};
-ghost use Rattle.timers.specs.Formed.{wellFormed};
+ghost use Rattle.timers.specs.State.{at, maskAt, resetTo, resetTimers};
+ghost use Rattle.timers.specs.Formed.{settingsFit, wellFormed};
 ghost use Rattle.timers.specs.Registers.{timerRegister};
 ghost use Rattle.timers.specs.Inner.{timerPut};
 use answers::Answer;
+use settings::Settings;
 use timer::Half;
 pub use timer::Timer;
 
-// `enabled` is 0 or 1: any other value is a state that is not well formed. No byte of it is padding.
+// `enabled` is 0 or 1, the vendor has 16 bits: any other value is a state that is not well formed. No byte of it is
+// padding.
 #[repr(C)]
 pub struct Timers {
     pub counter: u64,
-    pub enabled: u64,
+    // of a tick, in femtoseconds
+    pub tick_period: u32,
+    pub vendor: u32,
+    // the pins that each timer can be routed to, pin n at bit n
+    pub masks: [u32; 3],
+    pub enabled: u32,
     pub timer: [Timer; 3],
 }
 
@@ -60,8 +67,14 @@ impl Timers {
 
     // ---- what they hold
 
-    // period 100,000,000 fs, vendor 0x8086, 64-bit counter, three timers, revision 1
-    pub const CAPABILITIES_VALUE: u64 = 0x05F5E10080862201;
+    // capabilities: bits 63:32 tick period, 31:16 vendor; below them 64-bit counter, three timers, revision 1
+    pub const TICK_PERIOD: u64 = 32;
+
+    pub const VENDOR: u64 = 16;
+
+    pub const VENDOR_MASK: u64 = 0xFFFF;
+
+    pub const CAPABLE: u64 = 0x2201;
     // configuration: bit 0 enable
     pub const ENABLE: u32 = 0;
 
@@ -80,14 +93,35 @@ impl Timers {
 
     // ---- the state
 
+    // With settings: what is out of range is kept as it is, and the block is then not well formed.
+    pub fn reset_to(settings: Settings) -> Timers
+        ensures { λ r. ⌜ r ≡ resetTo settings ⌝ }
+    {
+        let t0 = Timer::reset(settings.mask0);
+        let t1 = Timer::reset(settings.mask1);
+        let t2 = Timer::reset(settings.mask2);
+        Timers {
+            counter: 0,
+            tick_period: settings.period,
+            vendor: settings.vendor as u32,
+            masks: [settings.mask0, settings.mask1, settings.mask2],
+            enabled: 0,
+            timer: [t0, t1, t2],
+        }
+    }
+
+    // As in document 01.
     pub fn reset() -> Timers
         ensures { λ r. ⌜ r ≡ resetTimers ⌝ }
     {
-        Timers {
-            counter: 0,
-            enabled: 0,
-            timer: [Timer::reset(); 3],
-        }
+        Timers::reset_to(Settings::standard())
+    }
+
+    // The vendor and the tick period are in range.
+    fn settings_fit(self) -> bool
+        ensures { λ r. ⌜ r ≡ settingsFit (self .vendor) (self .«tick_period») ⌝ }
+    {
+        settings::vendor_ok(self.vendor) & settings::period_ok(self.tick_period)
     }
 
     pub fn well_formed(self) -> bool
@@ -97,7 +131,9 @@ impl Timers {
         let t0 = t[0];
         let t1 = t[1];
         let t2 = t[2];
-        (self.enabled <= 1) & (t0.well_formed() & (t1.well_formed() & t2.well_formed()))
+        let k = self.masks;
+        let timers = t0.well_formed(k[0]) & (t1.well_formed(k[1]) & t2.well_formed(k[2]));
+        (self.enabled <= 1) & (self.settings_fit() & timers)
     }
 
     // Timer m; past the last, one that is all 0.
@@ -110,15 +146,26 @@ impl Timers {
         let t = self.timer;
         t[m]
     }
+
+    // Its mask; past the last, none.
+    fn mask_at(self, m: usize) -> u32
+        ensures { λ r. ⌜ r ≡ maskAt self m ⌝ }
+    {
+        if Timers::COUNT <= m {
+            return 0;
+        }
+        let k = self.masks;
+        k[m]
+    }
 }
 
 // What an offset of a timer's registers reads.
-fn timer_register(t: Timer, offset: u64) -> u64
-    ensures { λ r. ⌜ r ≡ timerRegister t offset ⌝ }
+fn timer_register(mask: u32, t: Timer, offset: u64) -> u64
+    ensures { λ r. ⌜ r ≡ timerRegister mask t offset ⌝ }
 {
     let place = offset % Timers::STEP;
     if place == 0 {
-        return t.configuration();
+        return t.configuration(mask);
     }
     if place == Timers::COMPARATOR {
         return t.comparator;
@@ -134,14 +181,14 @@ fn cleared_by(t: Timer, b: u8) -> Timer
 }
 
 // A timer after a write to a place among its registers, if it is the one that is written.
-fn put(t: Timer, hit: bool, place: u64, value: u64) -> Timer
-    ensures { λ r. ⌜ r ≡ timerPut t hit place value ⌝ }
+fn put(mask: u32, t: Timer, hit: bool, place: u64, value: u64) -> Timer
+    ensures { λ r. ⌜ r ≡ timerPut mask t hit place value ⌝ }
 {
     if !hit {
         return t;
     }
     if place == 0 {
-        return t.configured(value);
+        return t.configured(mask, value);
     }
     if place == Timers::COMPARATOR {
         return t.compared(value);

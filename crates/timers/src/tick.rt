@@ -75,11 +75,9 @@ impl Timers {
         let x0 = r0.timer;
         let x1 = r1.timer;
         let x2 = r2.timer;
-        let timers = Timers {
-            counter: std::num::wrapping_add_u64(self.counter, ticks as u64),
-            enabled: self.enabled,
-            timer: [x0, x1, x2],
-        };
+        let mut timers = self;
+        timers.counter = std::num::wrapping_add_u64(self.counter, ticks as u64);
+        timers.timer = [x0, x1, x2];
         Ran {
             timers,
             fired: [r0.fired, r1.fired, r2.fired],

@@ -4,7 +4,7 @@ ghost use Prim.Native.Nat.{_≤_};
 ghost use mathlib.Core.Bool.{cond};
 ghost use Rattle.timer.specs.Registers.{bit};
 ghost use Rattle.timers.specs.State.{isEnabled, withCounter, withEnabled, withTimers};
-ghost use Rattle.timers.specs.Registers.{aligned, fits, clearedBy, statusOf, registerOf, timerWritten, writtenOf};
+ghost use Rattle.timers.specs.Registers.{aligned, fits, clearedBy, statusOf, capabilitiesOf, registerOf, timerWritten, writtenOf};
 ghost use Rattle.timers.specs.Call.{refused, readingOf, writingOf, readOf, writeOf, advanceOf};
 use crate::Timers;
 use crate::Turn;
@@ -16,6 +16,14 @@ use answers::Refusal;
 
 impl Timers {
     // ---- registers
+
+    // What the capability register reads.
+    fn capabilities(self) -> u64
+        ensures { λ r. ⌜ r ≡ capabilitiesOf self ⌝ }
+    {
+        let vendor = (self.vendor as u64 & Timers::VENDOR_MASK) << Timers::VENDOR;
+        ((self.tick_period as u64) << Timers::TICK_PERIOD) | (vendor | Timers::CAPABLE)
+    }
 
     // What the status register reads.
     fn status(self) -> u64
@@ -33,7 +41,7 @@ impl Timers {
         ensures { λ r. ⌜ r ≡ registerOf self offset ⌝ }
     {
         if offset == Timers::CAPABILITIES {
-            return Timers::CAPABILITIES_VALUE;
+            return self.capabilities();
         }
         if offset == Timers::CONFIGURATION {
             return (self.enabled == 1) as u64;
@@ -51,7 +59,7 @@ impl Timers {
             return 0;
         }
         let m = ((offset - Timers::TIMERS) / Timers::STEP) as usize;
-        timer_register(self.at(m), offset)
+        timer_register(self.mask_at(m), self.at(m), offset)
     }
 
     // A write to the status register.
@@ -65,11 +73,9 @@ impl Timers {
         let x0 = cleared_by(t0, timer::bit(value, 0));
         let x1 = cleared_by(t1, timer::bit(value, 1));
         let x2 = cleared_by(t2, timer::bit(value, 2));
-        Timers {
-            counter: self.counter,
-            enabled: self.enabled,
-            timer: [x0, x1, x2],
-        }
+        let mut next = self;
+        next.timer = [x0, x1, x2];
+        next
     }
 
     // A write to the main counter.
@@ -89,7 +95,7 @@ impl Timers {
         ensures { λ r. ⌜ r ≡ withEnabled self (bit 0 value) ⌝ }
     {
         let mut next = self;
-        next.enabled = timer::bit(value, Timers::ENABLE) as u64;
+        next.enabled = timer::bit(value, Timers::ENABLE) as u32;
         next
     }
 
@@ -105,14 +111,13 @@ impl Timers {
         let t0 = t[0];
         let t1 = t[1];
         let t2 = t[2];
-        let x0 = put(t0, m == 0, place, value);
-        let x1 = put(t1, m == 1, place, value);
-        let x2 = put(t2, m == 2, place, value);
-        Timers {
-            counter: self.counter,
-            enabled: self.enabled,
-            timer: [x0, x1, x2],
-        }
+        let k = self.masks;
+        let x0 = put(k[0], t0, m == 0, place, value);
+        let x1 = put(k[1], t1, m == 1, place, value);
+        let x2 = put(k[2], t2, m == 2, place, value);
+        let mut next = self;
+        next.timer = [x0, x1, x2];
+        next
     }
 
     // A write to an offset in the window.

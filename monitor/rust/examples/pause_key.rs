@@ -132,7 +132,7 @@ fn refusals(board: &mut Board) {
 }
 
 fn not_a_board() {
-    println!("-- memory that is not a board: 288 bytes of 0xff");
+    println!("-- memory that is not a board: 304 bytes of 0xff");
     let filled = Board::from_bytes([0xFF; Board::SIZE]);
     let mut board = filled;
     value("read", board.read(Window::CONTROLLER, 4, INDEX));

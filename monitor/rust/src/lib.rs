@@ -1,9 +1,9 @@
 //! The board of a milling machine's PC, for a monitor written in Rust: an Intel 82093AA interrupt controller, an HPET timer
 //! block and the wires between them.
 //!
-//! A [`Board`] is a plain value of 288 bytes that the monitor owns. Each method lends it to the proved model, which changes
-//! it where it lies; nothing else is kept anywhere. `&mut self` is what the model asks of its caller: a valid, aligned
-//! address that nobody else uses during the call. A read changes nothing, and takes `&self`.
+//! A [`Board`] is a plain value of 304 bytes that the monitor owns. Each method lends it to the proved model, which
+//! changes it where it lies; nothing else is kept anywhere. `&mut self` is what the model asks of its caller: a valid,
+//! aligned address that nobody else uses during the call. A read changes nothing, and takes `&self`.
 //!
 //! ```
 //! use nataqvoju::{Board, Window, INDEX, DATA};
@@ -18,7 +18,7 @@
 //! # Ok::<(), nataqvoju::Refusal>(())
 //! ```
 //!
-//! A [`Mill`] is a board with its pause screen, 296 bytes: for a monitor that shows whether the machine is paused.
+//! A [`Mill`] is a board with its pause screen, 312 bytes: for a monitor that shows whether the machine is paused.
 //! [`salvage`] gets what can be got from a damaged log, and needs no board. A [`Plain`] is a board that a second engine
 //! serves, tick by tick: for a test bench that compares the two.
 //!
@@ -49,7 +49,7 @@ pub struct Timer {
     pub comparator: u64,
     /// Below 2^32 in 32-bit mode.
     pub period: u64,
-    /// The pin that it is routed to, at most 23.
+    /// The pin that it is routed to, one of its mask.
     pub route: u16,
     /// Bit 1 of its configuration: 1 level, 0 edge.
     pub level_type: u8,
@@ -65,14 +65,21 @@ pub struct Timer {
     pub status: u8,
 }
 
-/// The timer block.
+/// The timer block, with what the settings say of it. No call but a reset changes the tick period, the vendor and the
+/// masks.
 #[repr(C)]
 #[derive(Clone, Copy, Debug, PartialEq, Eq, Hash)]
 pub struct Timers {
     /// The main counter.
     pub counter: u64,
+    /// A tick's length in femtoseconds: 1 to 100,000,000.
+    pub tick_period: u32,
+    /// Below 2^16.
+    pub vendor: u32,
+    /// For each timer the pins that it can be routed to, pin n at bit n: nonzero, below 2^24.
+    pub masks: [u32; 3],
     /// 0 or 1.
-    pub enabled: u64,
+    pub enabled: u32,
     /// The three timers.
     pub timer: [Timer; 3],
 }
@@ -103,7 +110,10 @@ pub struct Controller {
     pub entries: Entries,
 }
 
-/// The board: 288 bytes, none of them padding.
+/// The board: 304 bytes, none of them padding.
+///
+/// Zero bytes are no well-formed board: a tick has a length, and a mask has a pin. A reset makes a board out of any
+/// bytes.
 #[repr(C)]
 #[derive(Clone, Copy, Debug, PartialEq, Eq, Hash)]
 pub struct Board {
@@ -146,7 +156,8 @@ pub const INDEX: u64 = 0x00;
 pub const DATA: u64 = 0x10;
 /// Index of entry 0's low word; entry n's is 2n above it, and its high word one above that.
 pub const ENTRY: u64 = 0x10;
-/// Offset in the timers' window: the capabilities, read only. Bits 63:32 are a tick's length in femtoseconds.
+/// Offset in the timers' window: the capabilities, read only. Bits 63:32 are a tick's length in femtoseconds, bits
+/// 31:16 the vendor.
 pub const CAPABILITIES: u64 = 0x000;
 /// Offset in the timers' window: bit 0 enables the block.
 pub const CONFIGURATION: u64 = 0x010;
@@ -163,6 +174,9 @@ pub const COMPARATOR: u64 = 0x008;
 /// From a register of the timers' window to its high half, of width 4. The low half is at the register's own offset.
 pub const HIGH_HALF: u64 = 0x004;
 
+/// How many bytes a settings record has: [`Board::reset_settings`].
+pub const SETTINGS_LENGTH: usize = 22;
+
 /// Why a call was refused. The board or the mill, or what else was lent, is as it was.
 #[derive(Clone, Copy, Debug, PartialEq, Eq, Hash)]
 #[repr(u32)]
@@ -177,6 +191,14 @@ pub enum Refusal {
     Value = 4,
     /// The board or the mill is not well formed.
     State = 5,
+    /// A settings record doesn't begin with its mark: a reset with settings alone gives this and the next three.
+    Mark = 6,
+    /// A settings record hasn't 22 bytes.
+    Length = 8,
+    /// A settings record's form isn't 1.
+    Form = 9,
+    /// A number of the settings is out of range.
+    Range = 10,
     /// The records or the list don't fit: a salvage alone gives this.
     Room = 12,
     /// The pause pin that is told has a level entry: a mill's telling alone gives this.
@@ -184,7 +206,7 @@ pub enum Refusal {
 }
 
 impl Refusal {
-    /// The number of the refusal: 1 to 5, 12 or 14.
+    /// The number of the refusal: 1 to 6, 8 to 10, 12 or 14.
     pub fn number(self) -> u32 {
         self as u32
     }
@@ -198,6 +220,10 @@ impl fmt::Display for Refusal {
             Refusal::Pin => "pin above 23",
             Refusal::Value => "wire level above 1, or a 4-byte write with a value above 4,294,967,295",
             Refusal::State => "the board or the mill is not well formed",
+            Refusal::Mark => "a settings record doesn't begin with the mark 5A C3",
+            Refusal::Length => "a settings record hasn't 22 bytes",
+            Refusal::Form => "a settings record's form isn't 1",
+            Refusal::Range => "a number of the settings is out of range",
             Refusal::Room => "the records or the list don't fit",
             Refusal::NotEdge => "the pause pin's entry is not an edge entry",
         })
@@ -221,6 +247,7 @@ pub struct Interrupt {
 
 extern "C" {
     fn nataqvoju_reset(board: &mut Board) -> Numbers;
+    fn nataqvoju_reset_settings(board: &mut Board, record: *const u8, length: usize) -> Numbers;
     fn nataqvoju_read(board: &Board, window: u64, width: u64, offset: u64) -> Numbers;
     fn nataqvoju_write(board: &mut Board, window: u64, width: u64, offset: u64, value: u64) -> Numbers;
     fn nataqvoju_wire(board: &mut Board, pin: u64, level: u64) -> Numbers;
@@ -237,8 +264,12 @@ impl Numbers {
             2 => Err(Refusal::Width),
             3 => Err(Refusal::Pin),
             4 => Err(Refusal::Value),
+            6 => Err(Refusal::Mark),
+            8 => Err(Refusal::Length),
+            9 => Err(Refusal::Form),
+            10 => Err(Refusal::Range),
             14 => Err(Refusal::NotEdge),
-            // 6 to 8 are a log's, and 7 an unknown kind's: no call of a board or of a mill's methods gives them.
+            // 7 is an unknown kind's, and 12 a salvage's: no call of a board or of a mill's methods gives them.
             _ => Err(Refusal::State),
         }
     }
@@ -255,12 +286,13 @@ impl Numbers {
 
 // SAFETY of every `unsafe` call below: the declarations above are those of `monitor/nataqvoju.h`; the layouts are checked at
 // the end of this file; every byte pattern is a `Board` and a `Numbers`; `&mut self` is valid, aligned and not aliased, `&self`
-// is valid, aligned and not written to meanwhile; and the model reads and writes nothing else.
+// is valid, aligned and not written to meanwhile; a slice's address is never null, and is that of so many bytes, which
+// are not the board's; and the model reads and writes nothing else.
 impl Board {
     /// How many bytes a board has.
-    pub const SIZE: usize = 288;
+    pub const SIZE: usize = 304;
 
-    /// A board fresh from reset.
+    /// A board fresh from reset, with document 01's settings.
     pub fn new() -> Board {
         let mut board = Board::from_bytes([0; Board::SIZE]);
         board.reset();
@@ -268,9 +300,59 @@ impl Board {
     }
 
     /// The reset state, whatever was there. Outside wires are low after it: a monitor whose lines stay high through a reset
-    /// wires them again.
+    /// wires them again. The settings are document 01's, also on a board that had others: vendor 0x8086, 100,000,000
+    /// femtoseconds, all 24 pins for each timer, id 0.
     pub fn reset(&mut self) {
         unsafe { nataqvoju_reset(self) };
+    }
+
+    /// The reset state with the settings of a record, whatever was there. A record has 22 bytes, its numbers are
+    /// little-endian:
+    ///
+    /// | at | |
+    /// |---|---|
+    /// | 0 | the mark 5A C3 |
+    /// | 2 | the form, 1 |
+    /// | 3 | vendor, two bytes: any |
+    /// | 5 | a tick's length in femtoseconds, four bytes: 1 to 100,000,000 |
+    /// | 9 | for each timer the pins that it can be routed to, pin n at bit n, four bytes each: nonzero, below 2^24 |
+    /// | 21 | the controller's id, one byte: at most 15 |
+    ///
+    /// Refused, in this order, with [`Refusal::Length`], [`Refusal::Mark`], [`Refusal::Form`] and [`Refusal::Range`],
+    /// never with [`Refusal::State`]. Refused, nothing is reset: every byte of the board is as it was, also of bytes
+    /// that are no well-formed board.
+    ///
+    /// A timer's route is then its mask's lowest pin. A route that is written and not in the mask keeps the old one,
+    /// and the other bits are taken. A write to the controller's id changes that register and nothing else. The
+    /// settings stay until the next reset, which has its own record, or document 01's settings if it has none.
+    ///
+    /// ```
+    /// use nataqvoju::{Board, Refusal, Window, CAPABILITIES, TIMER, TIMER_STEP};
+    ///
+    /// // vendor 0x8086; 69,841,279 femtoseconds, as 14.31818 MHz have it; pins 20 to 23 for each timer; id 2
+    /// let record = [
+    ///     0x5A, 0xC3, 1, 0x86, 0x80, 0x7F, 0xB1, 0x29, 0x04, 0, 0, 0xF0, 0, 0, 0, 0xF0, 0, 0, 0, 0xF0, 0, 2,
+    /// ];
+    /// let mut board = Board::new();
+    /// board.reset_settings(&record)?;
+    /// assert_eq!(board.read(Window::TIMERS, 8, CAPABILITIES)?, 0x0429_B17F_8086_2201);
+    /// // timer 1 can be routed to pins 20 to 23, and is to the lowest of them; 4 is not taken, 21 is
+    /// assert_eq!(board.read(Window::TIMERS, 8, TIMER + TIMER_STEP)?, 0x00F0_0000_0000_0030 | 20 << 9);
+    /// board.write(Window::TIMERS, 8, TIMER + TIMER_STEP, 4 << 9)?;
+    /// assert_eq!(board.timers.timer[1].route, 20);
+    /// board.write(Window::TIMERS, 8, TIMER + TIMER_STEP, 21 << 9)?;
+    /// assert_eq!(board.timers.timer[1].route, 21);
+    ///
+    /// let kept = board;
+    /// assert_eq!(board.reset_settings(&record[..21]), Err(Refusal::Length));
+    /// assert_eq!(board, kept);
+    /// board.reset();
+    /// assert_eq!(board.read(Window::TIMERS, 8, CAPABILITIES)?, 0x05F5_E100_8086_2201);
+    /// # Ok::<(), Refusal>(())
+    /// ```
+    pub fn reset_settings(&mut self, record: &[u8]) -> Result<(), Refusal> {
+        let numbers = unsafe { nataqvoju_reset_settings(self, record.as_ptr(), record.len()) };
+        numbers.done().map(drop)
     }
 
     /// A register read. Width 4 gives one half of a timer register.
@@ -455,12 +537,12 @@ macro_rules! layout {
 
 layout!(Timer, 24, 8, comparator at 0, period at 8, route at 16, level_type at 18, interrupt at 19, periodic at 20,
     set_comparator at 21, narrow at 22, status at 23);
-layout!(Timers, 88, 8, counter at 0, enabled at 8, timer at 16);
+layout!(Timers, 104, 8, counter at 0, tick_period at 8, vendor at 12, masks at 16, enabled at 28, timer at 32);
 layout!(Entries, 168, 4, low at 0, destination at 96, level at 120, held at 144);
 layout!(Controller, 176, 4, id at 0, index at 4, entries at 8);
-layout!(Board, 288, 8, timers at 0, controller at 88, outside at 264);
+layout!(Board, 304, 8, timers at 0, controller at 104, outside at 280);
 layout!(Numbers, 32, 8, value at 0, number at 8, delivered at 12, fired at 16, pin at 28, vector at 29, destination at 30,
     logical at 31);
 layout!(Screen, 8, 2, told at 0, pin at 2, word at 4, vector at 6);
-layout!(Mill, 296, 8, board at 0, screen at 288);
+layout!(Mill, 312, 8, board at 0, screen at 304);
 layout!(Salvaged, 32, 8, number at 0, records at 8, bytes at 16, stretches at 24);

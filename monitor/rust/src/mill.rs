@@ -47,7 +47,7 @@ pub struct Screen {
     pub vector: u16,
 }
 
-/// A board with its pause screen: 296 bytes, none of them padding.
+/// A board with its pause screen: 312 bytes, none of them padding.
 ///
 /// Its calls are the board's, with the same answers, and two of the screen's own: [`tell`](Mill::tell) and
 /// [`resume`](Mill::resume). With a told pin, [`Screen::word`] goes from each word to the next, and in no other way:
@@ -101,11 +101,12 @@ const RESUME: u64 = 9;
 
 extern "C" {
     fn nataqvoju_mill(mill: &mut Mill, kind: u64, a: u64, b: u64, c: u64, d: u64) -> Numbers;
+    fn nataqvoju_mill_reset_settings(mill: &mut Mill, record: *const u8, length: usize) -> Numbers;
 }
 
 impl Mill {
     /// How many bytes a mill has.
-    pub const SIZE: usize = 296;
+    pub const SIZE: usize = 312;
 
     /// A mill fresh from reset: no pin is told.
     pub fn new() -> Mill {
@@ -121,10 +122,38 @@ impl Mill {
         unsafe { nataqvoju_mill(self, kind, a, b, c, d) }.done()
     }
 
-    /// The reset state of the board, and no pin told, whatever was there. The pause pin has to be told again.
+    /// The reset state of the board, and no pin told, whatever was there. The pause pin has to be told again. The
+    /// settings are document 01's, as after [`Board::reset`].
     pub fn reset(&mut self) {
         // A reset is always done.
         let _ = self.call(RESET, [0; 4]);
+    }
+
+    /// The reset state of the board with the settings of a record, and no pin told, whatever was there. What a record
+    /// is, what it does and when it is refused: [`Board::reset_settings`]. Refused, every byte of the mill is as it
+    /// was, its screen's too.
+    ///
+    /// ```
+    /// use nataqvoju::{Mill, Refusal, Window, CAPABILITIES};
+    ///
+    /// // vendor 0x1022, 10,000,000 femtoseconds, pins 2, 8 and 23, id 15
+    /// let mut record = [0x5A, 0xC3, 1, 0x22, 0x10, 0x80, 0x96, 0x98, 0, 4, 0, 0, 0, 0, 1, 0, 0, 0, 0, 0x80, 0, 15];
+    /// let mut mill = Mill::new();
+    /// mill.tell(14)?;
+    /// let kept = mill;
+    /// record[21] = 16;
+    /// assert_eq!(mill.reset_settings(&record), Err(Refusal::Range));
+    /// assert_eq!(mill, kept);
+    /// record[21] = 15;
+    /// mill.reset_settings(&record)?;
+    /// assert_eq!((mill.screen.told, mill.board.controller.id), (0, 15));
+    /// assert_eq!(mill.read(Window::TIMERS, 8, CAPABILITIES)?, 0x0098_9680_1022_2201);
+    /// # Ok::<(), Refusal>(())
+    /// ```
+    pub fn reset_settings(&mut self, record: &[u8]) -> Result<(), Refusal> {
+        // SAFETY: as for `call`; and a slice's address is never null, and is that of so many bytes, which are not the
+        // mill's.
+        unsafe { nataqvoju_mill_reset_settings(self, record.as_ptr(), record.len()) }.done().map(drop)
     }
 
     /// A register read. Every byte of the mill is as it was; the entry asks for `&mut` all the same.

@@ -51,7 +51,8 @@ impl Plain {
         unsafe { nataqvoju_plain(&mut self.0, kind, a, b, c, d) }.done()
     }
 
-    /// The reset state, whatever was there.
+    /// The reset state with document 01's settings, whatever was there. A board with other settings is made by
+    /// [`Board::reset_settings`], and served in `Plain(board)`.
     pub fn reset(&mut self) {
         // A reset is always done.
         let _ = self.call(RESET, [0; 4]);

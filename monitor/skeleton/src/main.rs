@@ -22,7 +22,7 @@ struct Monitor {
 }
 
 /// A version mark, the board's bytes, the lines.
-const MARK: &[u8; 8] = b"board 1\n";
+const MARK: &[u8; 8] = b"board 2\n";
 const SAVED: usize = MARK.len() + Board::SIZE + PINS;
 
 impl Monitor {

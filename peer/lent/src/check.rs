@@ -3,7 +3,11 @@
 use std::fmt::Debug;
 use std::process::ExitCode;
 
+use peer::abi::settings::Resettable;
 use peer::abi::Reply;
+use peer::sequence::settings::Resetting;
+
+use crate::guarded;
 
 /// So many differences are shown.
 const SHOWN: u64 = 3;
@@ -60,6 +64,28 @@ impl Tally {
         let reply = make(&mut given.lent, wanted.call);
         let agrees = reply == wanted.reply && given == Guarded::new(wanted.after);
         self.judge(agrees, || show(wanted, &given, reply));
+    }
+
+    /// Makes one reset with a settings record, which lies so many bytes further than it need, and compares the reply,
+    /// the memory, the record and the guards of both.
+    pub fn compare_reset<Lent: Resettable + Debug>(
+        &mut self,
+        call: &Resetting<Lent>,
+        shift: usize,
+        make: impl FnOnce(&mut Lent, &mut [u8]) -> Reply,
+    ) {
+        let (reply, after) = call.right();
+        let mut record = guarded::Guarded::new(&call.record, 0xA5, shift);
+        let mut given = Guarded::new(call.before);
+        let got = make(&mut given.lent, record.lent());
+        let difference = record.difference(&call.record);
+        let agrees = got == reply && given == Guarded::new(after) && difference.is_none();
+        let wanted = Wanted { before: call.before, call: &call.record, after, reply };
+        self.judge(agrees, || {
+            println!("a reset with settings:");
+            show(&wanted, &given, got);
+            difference.iter().for_each(|place| println!("  the record: {place}"));
+        });
     }
 
     /// Counts one call; the first that don't agree are shown.

@@ -1,6 +1,6 @@
 //! What the calls were, and what they answered.
 
-use lent::irr;
+use lent::{irr, settings};
 use peer::abi::Call;
 use peer::board::TIMER_BLOCK;
 use peer::sequence::{Kind, Step};
@@ -20,6 +20,9 @@ pub struct Counts {
     mended: u64,
     halves: Halves,
     irr: irr::Counts,
+    settings: settings::Counts,
+    /// Resets with a settings record.
+    pub with_record: settings::Resets,
 }
 
 /// Counts of 4-byte accesses to the timers.
@@ -56,6 +59,8 @@ impl Counts {
             mended: 0,
             halves: Halves::default(),
             irr: irr::Counts::new(&CALLS),
+            settings: settings::Counts::default(),
+            with_record: settings::Resets::default(),
         }
     }
 
@@ -67,6 +72,7 @@ impl Counts {
         self.halves.note(step);
         let boards = (&step.before, &step.after);
         self.irr.note(place(step.call), Some(step.call), boards, step.reply.number);
+        self.settings.note(Some(step.call), boards, step.reply.number);
         if step.call == Call::Reset {
             self.resets += 1;
             self.mending += u64::from(!step.before.is_well_formed());
@@ -91,6 +97,8 @@ impl Counts {
         ];
         rows.extend(others.map(|(text, count)| (text.to_string(), count)));
         rows.extend(self.irr.rows());
+        rows.extend(self.settings.rows());
+        rows.extend(self.with_record.rows());
         rows
     }
 }

@@ -1,7 +1,9 @@
 //! The library's lent entries, called safely.
 
 pub mod check;
+pub mod guarded;
 pub mod irr;
+pub mod settings;
 
 use peer::abi::mill::{Mill, MillCall};
 use peer::abi::plain::PlainCall;
@@ -14,6 +16,11 @@ mod entry {
 
     extern "C" {
         pub fn nataqvoju_reset(board: *mut Board) -> Reply;
+        pub fn nataqvoju_reset_settings(
+            board: *mut Board,
+            record: *const u8,
+            length: usize,
+        ) -> Reply;
         pub fn nataqvoju_read(board: *const Board, window: u64, width: u64, offset: u64) -> Reply;
         pub fn nataqvoju_write(
             board: *mut Board,
@@ -27,6 +34,11 @@ mod entry {
         pub fn nataqvoju_advance(board: *mut Board, ticks: u32) -> Reply;
         pub fn nataqvoju_deliver(board: *mut Board) -> Reply;
         pub fn nataqvoju_mill(mill: *mut Mill, kind: u64, a: u64, b: u64, c: u64, d: u64) -> Reply;
+        pub fn nataqvoju_mill_reset_settings(
+            mill: *mut Mill,
+            record: *const u8,
+            length: usize,
+        ) -> Reply;
         pub fn nataqvoju_plain(
             board: *mut Board,
             kind: u64,
@@ -52,6 +64,12 @@ mod entry {
 /// Resets the board.
 pub fn reset(board: &mut Board) -> Reply {
     unsafe { entry::nataqvoju_reset(board) }
+}
+
+/// Resets the board with a settings record. The record may be written, so that a call that does it shows.
+pub fn reset_settings(board: &mut Board, record: &mut [u8]) -> Reply {
+    let (record, length) = (record.as_mut_ptr(), record.len());
+    unsafe { entry::nataqvoju_reset_settings(board, record, length) }
 }
 
 /// Reads a register. The board may be written, so that a read that does it shows.
@@ -100,6 +118,12 @@ pub fn call(board: &mut Board, call: Call) -> Reply {
 /// Makes any call of the mill.
 pub fn mill(mill: &mut Mill, MillCall { kind, numbers: [a, b, c, d] }: MillCall) -> Reply {
     unsafe { entry::nataqvoju_mill(mill, kind, a, b, c, d) }
+}
+
+/// Resets the mill with a settings record, which may be written too.
+pub fn mill_reset_settings(mill: &mut Mill, record: &mut [u8]) -> Reply {
+    let (record, length) = (record.as_mut_ptr(), record.len());
+    unsafe { entry::nataqvoju_mill_reset_settings(mill, record, length) }
 }
 
 /// Makes any call of the plain engine.

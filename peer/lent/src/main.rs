@@ -1,5 +1,5 @@
 //! `lent-check`: the library's lent entry against the second model, call by call: the reply and
-//! all 288 bytes of the board after every call.
+//! all 304 bytes of the board after every call.
 
 mod counts;
 
@@ -8,7 +8,7 @@ use std::process::ExitCode;
 use counts::Counts;
 use lent::check::{Tally, Wanted};
 use peer::abi::Call;
-use peer::sequence::{Maker, Sequence};
+use peer::sequence::{settings, Maker, Sequence};
 
 /// How many calls are compared, unless told otherwise.
 const CALLS: u64 = 2_000_000;
@@ -18,8 +18,9 @@ lent-check [--seed N] [--calls N]
 
 Compares the library's lent entry with the second model: sequences of calls, resets among them,
 from random states, with wide arguments, from states that are not well formed clause by clause,
-and from random memory. Every reply and every byte of the board has to agree, and everything
-that is counted has to come. The last line is `N passed, M failed`, in calls.
+and from random memory; and resets with settings records, good and broken. Every reply and every
+byte of the board has to agree, and everything that is counted has to come. The last line is
+`N passed, M failed`, in calls.
 ";
 
 fn main() -> ExitCode {
@@ -28,10 +29,14 @@ fn main() -> ExitCode {
 
 fn check(seed: u64, calls: u64) -> ExitCode {
     let (mut tally, mut counts) = (Tally::default(), Counts::new());
-    let mut maker = Maker::new(seed);
+    let (mut maker, mut resets) = (Maker::new(seed), settings::Maker::new(seed));
     while tally.goes_on(calls) {
         for sequence in maker.round() {
             play(&sequence, &mut tally, &mut counts);
+        }
+        for (number, reset) in resets.boards().iter().enumerate() {
+            counts.with_record.note(reset);
+            tally.compare_reset(reset, number % 8, lent::reset_settings);
         }
     }
     tally.report(&counts.rows())

@@ -29,7 +29,7 @@ pub struct Mill {
     pub screen: Screen,
 }
 
-const _: () = assert!(size_of::<Screen>() == 8 && size_of::<Mill>() == 296);
+const _: () = assert!(size_of::<Screen>() == 8 && size_of::<Mill>() == 312);
 
 /// The kinds of calls: the board's and two further ones.
 #[allow(missing_docs)] // the names of the calls

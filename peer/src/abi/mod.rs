@@ -1,5 +1,5 @@
-//! The lent entries' memory layout, and what each of their calls has to answer: the board's here,
-//! the mill's in [`mill`], the plain engine's in [`plain`], the salvage's in [`mod@salvage`].
+//! The lent entries' memory layout, and what each of their calls has to answer: the board's here, the mill's in
+//! [`mill`], the plain engine's in [`plain`], the salvage's in [`mod@salvage`], a reset with settings in [`settings`].
 //!
 //! No struct has padding, so equal fields are equal bytes. Fields are as wide as the C interface
 //! has them; what doesn't fit the model's types isn't well formed.
@@ -9,6 +9,9 @@ pub mod mill;
 mod model;
 pub mod plain;
 pub mod salvage;
+pub mod settings;
+
+use std::mem::offset_of;
 
 use crate::pin::PINS;
 use crate::timers::TIMERS;
@@ -50,7 +53,7 @@ pub struct Timer {
     pub comparator: u64,
     /// The period.
     pub period: u64,
-    /// At most 23.
+    /// A pin of its mask.
     pub route: u16,
     /// Level type.
     pub level_type: u8,
@@ -72,8 +75,14 @@ pub struct Timer {
 pub struct Timers {
     /// The main counter.
     pub counter: u64,
+    /// The tick period in femtoseconds, 1 to 100,000,000.
+    pub tick_period: u32,
+    /// At most 65,535.
+    pub vendor: u32,
+    /// The timers' route masks, each nonzero and below 2^24.
+    pub masks: [u32; TIMERS],
     /// 0 or 1.
-    pub enabled: u64,
+    pub enabled: u32,
     /// The timers.
     pub timer: [Timer; TIMERS],
 }
@@ -91,5 +100,8 @@ pub struct Board {
 }
 
 const _: () = assert!(size_of::<Entries>() == 168 && size_of::<Controller>() == 176);
-const _: () = assert!(size_of::<Timer>() == 24 && size_of::<Timers>() == 88);
-const _: () = assert!(size_of::<Board>() == 288 && size_of::<Reply>() == 32);
+const _: () = assert!(size_of::<Timer>() == 24 && size_of::<Timers>() == 104);
+const _: () = assert!(size_of::<Board>() == 304 && size_of::<Reply>() == 32);
+const _: () = assert!(offset_of!(Timers, tick_period) == 8 && offset_of!(Timers, vendor) == 12);
+const _: () = assert!(offset_of!(Timers, masks) == 16 && offset_of!(Timers, enabled) == 28);
+const _: () = assert!(offset_of!(Timers, timer) == 32 && offset_of!(Board, controller) == 104);

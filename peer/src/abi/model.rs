@@ -4,6 +4,7 @@ use super::{Board, Controller, Entries, Timer, Timers};
 use crate::board;
 use crate::controller;
 use crate::pin::{Pin, PINS};
+use crate::settings::ALL_PINS;
 use crate::timer;
 use crate::timers::{self, TIMERS};
 
@@ -17,7 +18,7 @@ fn flag(byte: impl Into<u64>) -> Option<bool> {
 }
 
 impl Board {
-    /// The model's state, unless some flag or level is neither 0 nor 1.
+    /// The model's state, unless some flag or level is neither 0 nor 1, or the vendor has more than 16 bits.
     pub fn model(&self) -> Option<board::Board> {
         let entries = &self.controller.entries;
         let mut pins = [Pin::RESET; PINS];
@@ -31,13 +32,16 @@ impl Board {
             };
             outside[n] = flag(self.outside[n])?;
         }
-        let mut timers = [timer::Timer::RESET; TIMERS];
-        for (timer, lent) in timers.iter_mut().zip(&self.timers.timer) {
-            *timer = lent.model()?;
+        let mut timers = [timer::Timer::reset_to(ALL_PINS); TIMERS];
+        let lent = self.timers.timer.iter().zip(self.timers.masks);
+        for (timer, (lent, mask)) in timers.iter_mut().zip(lent) {
+            *timer = lent.model(mask)?;
         }
         Some(board::Board {
             timers: timers::Timers {
                 counter: self.timers.counter,
+                tick_period: self.timers.tick_period,
+                vendor: u16::try_from(self.timers.vendor).ok()?,
                 enabled: flag(self.timers.enabled)?,
                 timer: timers,
             },
@@ -57,10 +61,11 @@ impl Board {
 }
 
 impl Timer {
-    fn model(&self) -> Option<timer::Timer> {
+    fn model(&self, mask: u32) -> Option<timer::Timer> {
         Some(timer::Timer {
             comparator: self.comparator,
             period: self.period,
+            mask,
             route: self.route,
             level_type: flag(self.level_type)?,
             interrupt: flag(self.interrupt)?,
@@ -78,7 +83,10 @@ impl From<&board::Board> for Board {
         Board {
             timers: Timers {
                 counter: model.timers.counter,
-                enabled: u64::from(model.timers.enabled),
+                tick_period: model.timers.tick_period,
+                vendor: model.timers.vendor.into(),
+                masks: model.timers.timer.map(|timer| timer.mask),
+                enabled: model.timers.enabled.into(),
                 timer: model.timers.timer.map(Timer::from),
             },
             controller: Controller {

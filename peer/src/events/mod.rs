@@ -8,18 +8,23 @@ mod registers;
 mod salvage;
 mod screen;
 mod screen_watch;
+mod settings;
+mod settings_file;
 mod ticks;
 mod watch;
 
 use crate::board::Refusal;
 use crate::generate::Profile;
 use crate::log::{records_of, LONGEST};
+use crate::settings::Settings;
 use list::events;
+use settings::refused_record;
 use watch::Watcher;
 
 pub use list::{Counts, Listed};
 pub use salvage::SalvageEvent;
 pub use screen::ScreenEvent;
+pub use settings_file::SettingsEvent;
 
 events! {
     Event, Profile;
@@ -189,6 +194,31 @@ events! {
     BigHalfReadOnly: "timers: half above 32 bits, read-only register", "a";
     BigHalfUnlisted: "timers: half above 32 bits, unlisted offset", "a";
     Unlisted: "access to an unlisted timer offset or index", "va";
+    CapabilityRead: "settings: capability register read", "vat";
+    CapabilityReadLow: "settings: capability register read, low half", "vat";
+    CapabilityReadHigh: "settings: capability register read, high half", "vat";
+    MaskRead: "settings: a mask read in whole", "vat";
+    MaskReadHigh: "settings: a mask read as a high half", "vat";
+    MaskWritten: "settings: another mask written in whole", "vat";
+    MaskHalfWritten: "settings: another mask written as a high half", "vat";
+    RouteInside: "settings: another route written inside the mask", "vat";
+    RouteOutside: "settings: route outside the mask, other bits changed", "vat";
+    RouteOutsideAlone: "settings: route outside the mask, nothing else", "vat";
+    RouteOutsideHalf: "settings: route outside the mask by a half write", "vat";
+    RouteOutsideStatus: "settings: route outside the mask that clears a status", "vat";
+    RouteOfAnother: "settings: route outside the mask, in another timer's", "vat";
+    RouteAboveMask: "settings: route above 23 with other bits changed", "vat";
+    ResetRoutePulse: "settings: a timer pulses at its reset route", "vatc";
+    ResetRouteLevel: "settings: a timer drives its reset route", "vatc";
+    IdRead: "settings: the id read after the reset", "vatc";
+    IdReadWritten: "settings: the id read after another one was written", "vatc";
+    ArbitrationRead: "settings: index 2 read after the reset", "vatc";
+    ArbitrationReadWritten: "settings: index 2 read after another id was written", "vatc";
+    Settings8: "settings refused 8", "vatc";
+    Settings6: "settings refused 6", "vatc";
+    Settings9: "settings refused 9", "vatc";
+    Settings10: "settings refused 10", "vatc";
+    SettingsTooLong: "settings refused and a log that is too long", "x";
     Stopped6: "stopped 6", "x";
     Stopped7: "stopped 7", "x";
     Stopped8: "stopped 8", "x";
@@ -207,8 +237,17 @@ impl Event {
 }
 
 impl Counts<Event> {
-    /// Plays a log and counts what happens in it; answers the number of its records.
-    pub fn watch(&mut self, log: &[u8]) -> usize {
+    /// Plays a log, with a settings record if there is one, and counts what happens in it; answers the number of its
+    /// records.
+    pub fn watch(&mut self, record: Option<&[u8]>, log: &[u8]) -> usize {
+        let settings = match record.map_or(Ok(Settings::USUAL), Settings::of_record) {
+            Ok(settings) => settings,
+            Err(refusal) => {
+                self.note(refused_record(refusal));
+                self.note_if(log.len() > LONGEST, Event::SettingsTooLong);
+                return 0;
+            }
+        };
         if log.len() > LONGEST {
             self.note(Event::TooLong);
             return 0;
@@ -216,7 +255,7 @@ impl Counts<Event> {
         self.note_if(log.is_empty(), Event::EmptyLog);
         self.note_if(log.len() == LONGEST, Event::Longest);
         let (records, stop) = records_of(log);
-        let mut watcher = Watcher::new(self);
+        let mut watcher = Watcher::new(self, settings);
         for record in &records {
             watcher.watch(record);
         }

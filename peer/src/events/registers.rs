@@ -29,6 +29,7 @@ impl Watcher<'_> {
         for n in 0..TIMERS {
             if write.register == configuration_of(n) {
                 self.watch_configuration(before, n, write.replaced);
+                self.watch_route(before, n, write);
                 self.watch_configured_wires(before, n);
             } else if write.register == comparator_of(n) {
                 self.watch_comparator(before, n, write);

@@ -3,10 +3,12 @@
 use super::list::events;
 use super::screen_watch::ScreenWatcher;
 use super::Counts;
+use crate::board::{Board, Refusal};
 use crate::generate::Profile;
 use crate::log::{records_of, LONGEST};
 use crate::mill::{Mill, MillCalls};
 use crate::screen::pin_of;
+use crate::settings::Settings;
 
 events! {
     ScreenEvent, Profile;
@@ -60,6 +62,14 @@ events! {
     StopsAsked: "the log stops in asked", "x";
     StopsTaken: "the log stops in taken", "x";
     StopsPaused: "the log stops in paused", "x";
+    SettingsPaused: "a log with settings comes to paused", "vcp";
+    SettingsByTimer: "settings: asked by a timer at its reset route", "vatp";
+    Settings8: "settings refused 8", "vatc";
+    Settings6: "settings refused 6", "vatc";
+    Settings9: "settings refused 9", "vatc";
+    Settings10: "settings refused 10", "vatc";
+    SettingsPin: "settings refused and a pin above 23", "va";
+    SettingsTooLong: "settings refused and a log that is too long", "x";
     PinZeros: "a pin with leading zeros", "vatcp";
     PinTwentyFour: "pin 24", "vatc";
     PinAbove: "a pin above 24", "vatc";
@@ -73,11 +83,20 @@ events! {
 }
 
 impl Counts<ScreenEvent> {
-    /// Plays a log on a mill with this pause key and counts what happens; answers the number of
-    /// its records.
-    pub fn watch(&mut self, pin: &str, log: &[u8]) -> usize {
+    /// Plays a log on a mill with this pause key, and with a settings record if there is one, and counts what happens;
+    /// answers the number of its records.
+    pub fn watch(&mut self, record: Option<&[u8]>, pin: &str, log: &[u8]) -> usize {
         let number = pin_of(pin).expect("every case has a number for its pin");
-        let mut mill = Mill::RESET;
+        let settings = match record.map_or(Ok(Settings::USUAL), Settings::of_record) {
+            Ok(settings) => settings,
+            Err(refusal) => {
+                self.note(refused_record(refusal));
+                self.note_if(number > 23, ScreenEvent::SettingsPin);
+                self.note_if(log.len() > LONGEST, ScreenEvent::SettingsTooLong);
+                return 0;
+            }
+        };
+        let mut mill = Mill { board: Board::reset_to(&settings), screen: None };
         let zeros = pin.len() > 1 && pin.starts_with('0');
         if mill.tell(number).is_err() {
             self.watch_refused_pin(pin, number);
@@ -97,7 +116,7 @@ impl Counts<ScreenEvent> {
         for record in &records {
             watcher.watch(record);
         }
-        watcher.finish(stop.is_some());
+        watcher.finish(stop.is_some(), record.is_some());
         records.len()
     }
 
@@ -106,5 +125,14 @@ impl Counts<ScreenEvent> {
         self.note_if(pin.trim_start_matches('0').len() > 20, ScreenEvent::PinLong);
         let cut = [8, 16, 32].iter().any(|&bits| number & ((1 << bits) - 1) < 24);
         self.note_if(cut && number != u64::MAX, ScreenEvent::PinCut);
+    }
+}
+
+fn refused_record(refusal: Refusal) -> ScreenEvent {
+    match refusal {
+        Refusal::Short => ScreenEvent::Settings8,
+        Refusal::Mark => ScreenEvent::Settings6,
+        Refusal::Form => ScreenEvent::Settings9,
+        _ => ScreenEvent::Settings10,
     }
 }

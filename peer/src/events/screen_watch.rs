@@ -7,6 +7,7 @@ use crate::controller::Delivery;
 use crate::log::Record;
 use crate::mill::{Mill, Screen, Stage};
 use crate::pin::{Pin, PINS};
+use crate::timers::TIMERS;
 
 /// Follows one log.
 pub(super) struct ScreenWatcher<'counts> {
@@ -17,6 +18,8 @@ pub(super) struct ScreenWatcher<'counts> {
     second: Option<u8>,
     /// An edge write cleared the key's remote IRR while taken.
     freed: bool,
+    /// The timers' routes after the reset.
+    routes: [u16; TIMERS],
 }
 
 /// A done record, with the key's pin around it and the stage after it.
@@ -31,7 +34,8 @@ struct Step<'step> {
 
 impl<'counts> ScreenWatcher<'counts> {
     pub(super) fn new(counts: &'counts mut Counts<Event>, mill: Mill, key: u8) -> Self {
-        ScreenWatcher { counts, mill, key, second: None, freed: false }
+        let routes = mill.board.timers.timer.map(|timer| timer.route);
+        ScreenWatcher { counts, mill, key, second: None, freed: false, routes }
     }
 
     fn stage(&self) -> Stage {
@@ -63,7 +67,9 @@ impl<'counts> ScreenWatcher<'counts> {
         }
     }
 
-    pub(super) fn finish(self, stopped: bool) {
+    pub(super) fn finish(self, stopped: bool, with_settings: bool) {
+        let is_paused = matches!(self.stage(), Stage::Paused { .. });
+        self.counts.note_if(with_settings && is_paused, SettingsPaused);
         let event = match (self.stage(), stopped) {
             (Stage::Running, false) => EndsRunning,
             (Stage::Asked, false) => EndsAsked,
@@ -83,8 +89,14 @@ impl<'counts> ScreenWatcher<'counts> {
             !old.held && self.mill.board.controller.pins[pin].held
         };
         let other = (0..PINS).any(|pin| pin != usize::from(self.key) && newly_held(pin));
+        let at_reset_route = (0..TIMERS).any(|n| {
+            let route = self.mill.board.timers.timer[n].route;
+            route == self.key.into() && route == self.routes[n] && route != 0
+        });
         let counts = &mut *self.counts;
         if step.to == Stage::Asked {
+            let advances = matches!(step.record, Record::Advance { .. });
+            counts.note_if(advances && at_reset_route, SettingsByTimer);
             counts.note(match *step.record {
                 Record::Wire { .. } => AskedByWire,
                 Record::Advance { .. } => AskedByAdvance,

@@ -132,6 +132,9 @@ impl Watcher<'_> {
         let (old, new) = (before.controller.pins[route], board.controller.pins[route]);
         let first = !std::mem::replace(&mut passed.fired[n], true);
         self.watch_pin(&before, n, &Firing { timer, old, new, first });
+        if old != new {
+            self.watch_reset_route(n);
+        }
         if timer.pulses() && old.holds_edges() {
             self.counts.note_if(old.wire && passed.seen[n], Event::PulseThenHidden);
             passed.seen[n] |= !old.wire;

@@ -1,5 +1,6 @@
 //! Follows a log record by record; advances are in [`super::ticks`], timer register writes in
-//! [`super::registers`] and [`super::halves`], what becomes of remote IRR in [`super::irr`].
+//! [`super::registers`] and [`super::halves`], what becomes of remote IRR in [`super::irr`], what settings show in
+//! [`super::settings`].
 
 use super::irr::Freed;
 use super::{Counts, Event};
@@ -8,12 +9,17 @@ use crate::controller::{Controller, DATA};
 use crate::log::Record;
 use crate::part::Part;
 use crate::pin::{Pin, PINS};
+use crate::settings::Settings;
 use crate::timers::{configuration_of, TIMERS};
 
 /// Follows one log.
 pub(super) struct Watcher<'counts> {
     pub(super) counts: &'counts mut Counts<Event>,
     pub(super) board: Board,
+    /// What it was reset with.
+    pub(super) settings: Settings,
+    /// The timer's route isn't its reset route any more.
+    pub(super) routed: [bool; TIMERS],
     /// The timer fired, and its comparator wasn't written since.
     pub(super) fired: [bool; TIMERS],
     /// The last write to the timer's period was one of a half.
@@ -27,10 +33,12 @@ pub(super) struct Watcher<'counts> {
 }
 
 impl<'counts> Watcher<'counts> {
-    pub(super) fn new(counts: &'counts mut Counts<Event>) -> Self {
+    pub(super) fn new(counts: &'counts mut Counts<Event>, settings: Settings) -> Self {
         Watcher {
             counts,
-            board: Board::RESET,
+            board: Board::reset_to(&settings),
+            settings,
+            routed: [false; TIMERS],
             fired: [false; TIMERS],
             halved: [false; TIMERS],
             first_half: [None; TIMERS],
@@ -107,6 +115,7 @@ impl Watcher<'_> {
     }
 
     fn watch_read(&mut self, window: u64, width: u8, offset: u64) {
+        self.watch_settings_read(window, width.into(), offset);
         if window == CONTROLLER && offset == DATA {
             let index = self.board.controller.index as usize;
             self.counts.note_if(matches!(index, 3..0x10 | 0x40..), Event::Unlisted);

@@ -11,7 +11,7 @@ use crate::events::{Counts, Listed};
 use crate::generate::Sort;
 use other::{Other, Outcome, Way};
 
-pub use subject::{Case, Replay, Salvage, Screen, SortOf, Subject, Twin};
+pub use subject::{Case, Files, Replay, Salvage, Screen, SettingsFile, SortOf, Subject, Twin};
 
 /// The seed that the gate uses.
 pub const FIXED_SEED: u64 = 0x7EB5;
@@ -93,8 +93,8 @@ impl<'options, S: Subject> Comparison<'options, S> {
         tally.records += S::watch(&mut tally.counts, &case);
         tally.ticks += S::walked(&case);
         let way = match number % 8 {
-            2 => Way::StandardInput,
-            6 => Way::Pipe,
+            2 if !S::ALWAYS_FILE => Way::StandardInput,
+            6 if !S::ALWAYS_FILE => Way::Pipe,
             _ => Way::Argument,
         };
         if self.other.run::<S>(&case, way)? == Outcome::own::<S>(&case) {

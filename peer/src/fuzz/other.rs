@@ -1,14 +1,14 @@
 //! The other program, run on a case.
 
 use std::fs;
-use std::io::{ErrorKind, Read, Write};
+use std::io::{self, ErrorKind, Read, Write};
 use std::path::{Path, PathBuf};
 use std::process::{Child, Command, Stdio};
-use std::sync::mpsc;
+use std::sync::mpsc::{self, Receiver};
 use std::thread;
 use std::time::Duration;
 
-use super::{Case, Subject};
+use super::{Case, Files, Subject};
 
 /// A run that takes longer is taken for one that doesn't end.
 const PATIENCE: Duration = Duration::from_secs(60);
@@ -27,17 +27,18 @@ fn brief(log: &[u8]) -> String {
     }
 }
 
-/// What a program prints, and what the file has that it makes, if it makes one.
+/// What a program prints, and what the file has that it makes, if it makes one. On standard error it prints nothing.
 #[derive(PartialEq, Eq)]
 pub(super) struct Outcome {
     pub(super) text: Vec<u8>,
+    pub(super) errors: Vec<u8>,
     pub(super) made: Option<Vec<u8>>,
 }
 
 impl Outcome {
     /// This program's own.
     pub(super) fn own<S: Subject>(case: &Case) -> Outcome {
-        Outcome { text: S::output(case).into_bytes(), made: S::made(case) }
+        Outcome { text: S::output(case).into_bytes(), errors: Vec::new(), made: S::made(case) }
     }
 }
 
@@ -68,14 +69,14 @@ impl Other {
         let program = self.program.display();
         let child =
             self.start::<S>(case, way).map_err(|error| format!("can't run {program}: {error}"))?;
-        let text = collect(child)
+        let (text, errors) = collect(child)
             .ok_or_else(|| format!("{program} doesn't end on {}", brief(&case.log)))?;
         let made = match fs::read(self.out()) {
             Ok(bytes) => Some(bytes),
             Err(error) if error.kind() == ErrorKind::NotFound => None,
             Err(error) => return Err(format!("can't read what {program} made: {error}")),
         };
-        Ok(Outcome { text, made })
+        Ok(Outcome { text, errors, made })
     }
 
     /// The file that it may make.
@@ -89,10 +90,14 @@ impl Other {
             Err(error) if error.kind() != ErrorKind::NotFound => return Err(error),
             _ => {}
         }
-        let argument = matches!(way, Way::Argument).then_some(file.as_path());
+        let settings = self.folder.join("settings");
+        if let Some(record) = &case.settings {
+            fs::write(&settings, record)?;
+        }
+        let log = matches!(way, Way::Argument).then_some(file.as_path());
         let mut command = Command::new(&self.program);
-        command.args(S::arguments(case, argument, &out));
-        command.stdout(Stdio::piped()).stderr(Stdio::null());
+        command.args(S::arguments(case, &Files { log, settings: &settings, out: &out }));
+        command.stdout(Stdio::piped()).stderr(Stdio::piped());
         match way {
             Way::Argument => {
                 fs::write(&file, &case.log)?;
@@ -121,19 +126,29 @@ impl Drop for Other {
     }
 }
 
-/// Waits for a program's output, but not for ever.
-fn collect(mut child: Child) -> Option<Vec<u8>> {
-    let mut output = child.stdout.take().expect("the output is a pipe");
+/// Waits for what a program prints, also on standard error, but not for ever.
+fn collect(mut child: Child) -> Option<(Vec<u8>, Vec<u8>)> {
+    let text = read_beside(child.stdout.take().expect("the output is a pipe"));
+    let errors = read_beside(child.stderr.take().expect("standard error is a pipe"));
+    let answer = text.recv_timeout(PATIENCE).and_then(|text| {
+        let errors = errors.recv_timeout(PATIENCE)?;
+        Ok((text, errors))
+    });
+    if answer.is_err() {
+        let _ = child.kill();
+    }
+    let _ = child.wait();
+    let (text, errors) = answer.ok()?;
+    Some((text.ok()?, errors.ok()?))
+}
+
+/// Reads to the end, beside what goes on here.
+fn read_beside(mut output: impl Read + Send + 'static) -> Receiver<io::Result<Vec<u8>>> {
     let (sender, receiver) = mpsc::channel();
     thread::spawn(move || {
         let mut bytes = Vec::new();
         let read = output.read_to_end(&mut bytes);
         let _ = sender.send(read.map(|_| bytes));
     });
-    let answer = receiver.recv_timeout(PATIENCE);
-    if answer.is_err() {
-        let _ = child.kill();
-    }
-    let _ = child.wait();
-    answer.ok()?.ok()
+    receiver
 }

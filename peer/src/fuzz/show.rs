@@ -23,6 +23,8 @@ pub(super) fn difference(
     println!("shrunk to {records} records, {} bytes:", case.log.len());
     bytes(&case.log, "log")?;
     case.pin.iter().for_each(|pin| println!("pin {pin}"));
+    case.settings.iter().for_each(|record| println!("settings {}", hex(record)));
+    case.numbers.iter().for_each(|numbers| println!("make {}", numbers.join(" ")));
     let (own_text, text) =
         (String::from_utf8_lossy(&own.text), String::from_utf8_lossy(&other.text));
     let same = own_text.lines().zip(text.lines()).take_while(|(a, b)| a == b).count();
@@ -31,6 +33,11 @@ pub(super) fn difference(
     println!("--- {}", program.display());
     part_of(&text, same);
     println!("---");
+    if !other.errors.is_empty() {
+        println!("--- it wrote on standard error");
+        println!("{}", String::from_utf8_lossy(&other.errors).trim_end());
+        println!("---");
+    }
     if own.made != other.made {
         println!("--- the file that peer makes");
         file(own.made.as_deref(), "own-file")?;

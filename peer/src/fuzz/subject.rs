@@ -1,30 +1,72 @@
-//! What is compared: the program `replay`, `twin`, `screen` or `salvage_log`.
+//! What is compared: the program `replay`, `twin`, `screen`, `salvage_log` or `settings_file`.
 
 use std::ffi::OsString;
 use std::path::Path;
 
-use crate::events::{Counts, Event, Listed, SalvageEvent, ScreenEvent};
-use crate::generate::{damaged_log, keyed_log, log, short_log, ticks_of, walk_log};
-use crate::generate::{Damage, Log, Profile};
-use crate::log::{replay_from_reset, LONGEST};
+use crate::events::{Counts, Event, Listed, SalvageEvent, ScreenEvent, SettingsEvent};
+use crate::generate::{broken_record, damaged_log, given_record, log_for, ticks_of, walk_log};
+use crate::generate::{made_of, refused_record, shown_record, Given};
+use crate::generate::{Damage, Log, Pace, Profile};
+use crate::log::{replay_from, LONGEST};
 use crate::random::Random;
 use crate::salvage::salvage;
-use crate::screen::{pin_of, screen_from_reset};
+use crate::screen::{pin_of, screen_from};
+use crate::settings::Settings;
+use crate::settings_file::{self, NUMBERS};
 use crate::shrink::{shrink, shrink_bytes};
 
 /// What a program is run on.
-#[derive(Clone)]
+#[derive(Clone, Default)]
 pub struct Case {
+    /// The settings record that it starts from, if it is given one.
+    pub settings: Option<Vec<u8>>,
     /// The argument before the log.
     pub pin: Option<String>,
-    /// The log.
+    /// The log, or the settings record that is shown.
     pub log: Vec<u8>,
+    /// The numbers that a settings record is made of.
+    pub numbers: Option<[String; NUMBERS]>,
+}
+
+/// The files of a run.
+pub struct Files<'run> {
+    /// The log, unless it is standard input.
+    pub log: Option<&'run Path>,
+    /// The settings record.
+    pub settings: &'run Path,
+    /// What the program makes.
+    pub out: &'run Path,
 }
 
 impl Case {
     /// The same with another log.
     pub fn with_log(&self, log: Vec<u8>) -> Case {
         Case { log, ..self.clone() }
+    }
+
+    /// A log of this number, with its pause key: two in five have a settings record. It is made on a board with these
+    /// settings; if the record is refused, that doesn't matter.
+    fn with_settings(profile: Profile, pace: Pace, seed: u64, number: u64) -> (Case, u8) {
+        let mut random =
+            Random::new(seed.rotate_left(16) ^ number.wrapping_mul(0xC2B2_AE3D_27D4_EB4F));
+        // The first torn logs come whatever the seed. They have no record, but one of those that are too long has a
+        // refused one.
+        let turn = number / Profile::ALL.len() as u64;
+        let settings = match (profile, turn) {
+            (Profile::Torn, 3) => Some(broken_record(&mut random)),
+            (Profile::Torn, 0..5) => None,
+            _ => given_record(40, &mut random),
+        };
+        let read = settings.as_deref().map_or(Ok(Settings::USUAL), Settings::of_record);
+        let Log { bytes, key } =
+            log_for(&read.unwrap_or(Settings::USUAL), profile, pace, seed, number);
+        (Case { settings, log: bytes, ..Case::default() }, key)
+    }
+
+    /// The words that hand the settings over.
+    fn settings_words(&self, files: &Files) -> Vec<OsString> {
+        let words = || vec!["--settings".into(), files.settings.into()];
+        self.settings.as_ref().map_or(Vec::new(), |_| words())
     }
 }
 
@@ -44,13 +86,14 @@ pub trait Subject {
     const ENOUGH_LOGS: u64 = 400;
     /// The sorts of logs that are meant to reach an event may do it together; else each has to.
     const TOGETHER: bool = false;
+    /// The log is always a file, and never standard input.
+    const ALWAYS_FILE: bool = false;
 
     /// The case with this number: the seed and the number decide it.
     fn case(sort: SortOf<Self>, seed: u64, number: u64) -> Case;
 
-    /// What the program is called with. The log is a file, or standard input; a file that the program
-    /// makes is `out`.
-    fn arguments(case: &Case, log: Option<&Path>, out: &Path) -> Vec<OsString>;
+    /// What the program is called with.
+    fn arguments(case: &Case, files: &Files) -> Vec<OsString>;
 
     /// This program's whole output.
     fn output(case: &Case) -> String;
@@ -79,31 +122,31 @@ pub trait Subject {
     }
 }
 
-/// `replay [FILE]`
+/// `replay [--settings FILE] [FILE]`
 pub struct Replay;
 
 impl Subject for Replay {
     type Event = Event;
 
     fn case(profile: Profile, seed: u64, number: u64) -> Case {
-        Case { pin: None, log: log(profile, seed, number) }
+        Case::with_settings(profile, Pace::Any, seed, number).0
     }
 
-    fn arguments(_: &Case, log: Option<&Path>, _: &Path) -> Vec<OsString> {
-        log.map(OsString::from).into_iter().collect()
+    fn arguments(case: &Case, files: &Files) -> Vec<OsString> {
+        case.settings_words(files).into_iter().chain(files.log.map(OsString::from)).collect()
     }
 
     fn output(case: &Case) -> String {
-        replay_from_reset(&case.log)
+        replay_from(case.settings.as_deref(), &case.log)
     }
 
     fn watch(counts: &mut Counts<Event>, case: &Case) -> usize {
-        counts.watch(&case.log)
+        counts.watch(case.settings.as_deref(), &case.log)
     }
 }
 
-/// `twin [FILE]`, which walks every tick beside a replay, and prints what that prints. Under an emulator
-/// it takes its time, so there are fewer logs, and their advances are short.
+/// `twin [--settings FILE] [FILE]`, which walks every tick beside a replay, and prints what that prints. Under an
+/// emulator it takes its time, so there are fewer logs, and their advances are short.
 pub struct Twin;
 
 impl Subject for Twin {
@@ -117,12 +160,14 @@ impl Subject for Twin {
     fn case(profile: Profile, seed: u64, number: u64) -> Case {
         // Chance makes a long walk too rarely: one comes whatever the seed.
         let is_walk = profile == Profile::Timers && number < Profile::ALL.len() as u64;
-        let log = if is_walk { walk_log(profile, seed) } else { short_log(profile, seed, number) };
-        Case { pin: None, log }
+        if is_walk {
+            return Case { log: walk_log(profile, seed), ..Case::default() };
+        }
+        Case::with_settings(profile, Pace::Short, seed, number).0
     }
 
-    fn arguments(case: &Case, log: Option<&Path>, out: &Path) -> Vec<OsString> {
-        Replay::arguments(case, log, out)
+    fn arguments(case: &Case, files: &Files) -> Vec<OsString> {
+        Replay::arguments(case, files)
     }
 
     fn output(case: &Case) -> String {
@@ -142,7 +187,7 @@ impl Subject for Twin {
     }
 }
 
-/// `screen PIN [FILE]`
+/// `screen [--settings FILE] PIN [FILE]`
 pub struct Screen;
 
 impl Screen {
@@ -155,30 +200,33 @@ impl Subject for Screen {
     type Event = ScreenEvent;
 
     fn case(profile: Profile, seed: u64, number: u64) -> Case {
-        let Log { bytes, key } = keyed_log(profile, seed, number);
+        let (case, key) = Case::with_settings(profile, Pace::Any, seed, number);
         let mut random = Random::new(seed.rotate_left(32) ^ number);
         // A refused pin with a log that is too long comes, whatever the seed.
         let turn = number / Profile::ALL.len() as u64;
-        let pin = if bytes.len() > LONGEST && turn.is_multiple_of(2) {
+        let pin = if case.log.len() > LONGEST && turn.is_multiple_of(2) {
             bad_pin(&mut random, key)
         } else {
             let chance = if profile == Profile::Pause { 3 } else { 20 };
             pin_text(&mut random, chance, key)
         };
-        Case { pin: Some(pin), log: bytes }
+        Case { pin: Some(pin), ..case }
     }
 
-    fn arguments(case: &Case, log: Option<&Path>, _: &Path) -> Vec<OsString> {
-        [Screen::pin(case).into()].into_iter().chain(log.map(OsString::from)).collect()
+    fn arguments(case: &Case, files: &Files) -> Vec<OsString> {
+        let mut words = case.settings_words(files);
+        words.push(Screen::pin(case).into());
+        words.extend(files.log.map(OsString::from));
+        words
     }
 
     fn output(case: &Case) -> String {
         let pin = pin_of(Screen::pin(case)).expect("every case has a number for its pin");
-        screen_from_reset(pin, &case.log)
+        screen_from(case.settings.as_deref(), pin, &case.log)
     }
 
     fn watch(counts: &mut Counts<ScreenEvent>, case: &Case) -> usize {
-        counts.watch(Screen::pin(case), &case.log)
+        counts.watch(case.settings.as_deref(), Screen::pin(case), &case.log)
     }
 }
 
@@ -189,11 +237,11 @@ impl Subject for Salvage {
     type Event = SalvageEvent;
 
     fn case(damage: Damage, seed: u64, number: u64) -> Case {
-        Case { pin: None, log: damaged_log(damage, seed, number) }
+        Case { log: damaged_log(damage, seed, number), ..Case::default() }
     }
 
-    fn arguments(_: &Case, log: Option<&Path>, out: &Path) -> Vec<OsString> {
-        vec![log.map_or("-".into(), OsString::from), out.into()]
+    fn arguments(_: &Case, files: &Files) -> Vec<OsString> {
+        vec![files.log.map_or("-".into(), OsString::from), files.out.into()]
     }
 
     fn output(case: &Case) -> String {
@@ -206,6 +254,65 @@ impl Subject for Salvage {
 
     fn watch(counts: &mut Counts<SalvageEvent>, case: &Case) -> usize {
         counts.watch(&case.log)
+    }
+
+    fn shrink(log: &[u8], effort: usize, differs: impl FnMut(&[u8]) -> bool) -> Vec<u8> {
+        shrink_bytes(log, effort, differs)
+    }
+}
+
+/// `settings_file show FILE` and `settings_file make VENDOR PERIOD MASK0 MASK1 MASK2 ID OUT`
+pub struct SettingsFile;
+
+impl SettingsFile {
+    fn output_of(case: &Case) -> settings_file::Output {
+        match &case.numbers {
+            None => settings_file::Output { text: settings_file::show(&case.log), made: None },
+            Some(words) => settings_file::make(words).expect("every word is a number"),
+        }
+    }
+}
+
+impl Subject for SettingsFile {
+    type Event = SettingsEvent;
+
+    const GATE_LOGS: u64 = 450;
+    const LONG_LOGS: u64 = 20_000;
+    const ENOUGH_LOGS: u64 = 120;
+    const ALWAYS_FILE: bool = true;
+
+    fn case(given: Given, seed: u64, number: u64) -> Case {
+        match given {
+            Given::Records => Case { log: shown_record(seed, number), ..Case::default() },
+            Given::Broken => Case { log: refused_record(seed, number), ..Case::default() },
+            Given::Numbers => Case { numbers: Some(made_of(seed, number)), ..Case::default() },
+        }
+    }
+
+    fn arguments(case: &Case, files: &Files) -> Vec<OsString> {
+        match &case.numbers {
+            None => ["show".into()].into_iter().chain(files.log.map(OsString::from)).collect(),
+            Some(numbers) => {
+                let words = numbers.iter().map(OsString::from);
+                ["make".into()].into_iter().chain(words).chain([files.out.into()]).collect()
+            }
+        }
+    }
+
+    fn output(case: &Case) -> String {
+        SettingsFile::output_of(case).text
+    }
+
+    fn made(case: &Case) -> Option<Vec<u8>> {
+        SettingsFile::output_of(case).made
+    }
+
+    fn watch(counts: &mut Counts<SettingsEvent>, case: &Case) -> usize {
+        match &case.numbers {
+            None => counts.watch_shown(&case.log),
+            Some(numbers) => counts.watch_made(numbers),
+        }
+        1
     }
 
     fn shrink(log: &[u8], effort: usize, differs: impl FnMut(&[u8]) -> bool) -> Vec<u8> {

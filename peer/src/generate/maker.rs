@@ -2,18 +2,23 @@
 //! depend on both.
 
 use super::choices::{self, any_pin, landmark, near, period};
+use super::settings::pins_of;
 use super::{Pace, MOST_TICKS};
+use crate::board::Board;
 use crate::controller::{DATA, INDEX};
 use crate::log::Record;
 use crate::mill::{Mill, MillCalls};
 use crate::part::Part;
 use crate::random::Random;
+use crate::settings::Settings;
 use crate::timer::bits;
 use crate::timers::TIMERS;
 
 /// Makes one log.
 pub(super) struct Maker {
     pub(super) random: Random,
+    /// What the board was reset with.
+    pub(super) settings: Settings,
     pace: Pace,
     /// So many ticks its advances may still take.
     ticks_left: u64,
@@ -26,21 +31,28 @@ pub(super) struct Maker {
 }
 
 impl Maker {
-    pub(super) fn new(pace: Pace, seed: u64) -> Maker {
+    pub(super) fn new(pace: Pace, settings: &Settings, seed: u64) -> Maker {
         let mut random = Random::new(seed);
-        let pins: Vec<u8> = (0..1 + random.below(4))
-            .map(
-                |_| if random.percent(25) { random.choose(&[0, 23]) } else { any_pin(&mut random) },
-            )
-            .collect();
+        let pins: Vec<u8> =
+            (0..1 + random.below(4)).map(|_| pin_for(settings, &mut random)).collect();
         let vectors = (0..3).map(|_| random.any() as u8).collect();
-        let mut mill = Mill::RESET;
+        let mut mill = Mill { board: Board::reset_to(settings), screen: None };
         mill.tell(pins[0].into()).expect("every entry is an edge entry after a reset");
         let ticks_left = match pace {
             Pace::Any => u64::MAX,
             Pace::Short => MOST_TICKS,
         };
-        Maker { random, pace, ticks_left, mill, log: Vec::new(), records: 0, pins, vectors }
+        Maker {
+            random,
+            settings: *settings,
+            pace,
+            ticks_left,
+            mill,
+            log: Vec::new(),
+            records: 0,
+            pins,
+            vectors,
+        }
     }
 
     /// Adds a record; an advance takes at most the ticks that are left.
@@ -141,9 +153,12 @@ impl Maker {
         choices::low_word(&mut self.random, vector)
     }
 
-    pub(super) fn configuration(&mut self) -> u64 {
-        let route =
-            if self.random.percent(85) { u64::from(self.pin()) } else { self.random.below(32) };
+    pub(super) fn configuration(&mut self, n: usize) -> u64 {
+        let route = if self.random.percent(85) {
+            u64::from(self.route_pin(n))
+        } else {
+            self.random.below(32)
+        };
         choices::configuration(&mut self.random) | route << bits::ROUTE_SHIFT
     }
 
@@ -160,14 +175,14 @@ impl Maker {
     pub(super) fn reconfiguration(&mut self, n: usize) -> u64 {
         let present = self.mill.board.timers.timer[n].read_configuration();
         match self.random.below(100) {
-            0..45 => self.configuration(),
+            0..45 => self.configuration(n),
             45..53 => present ^ bits::INTERRUPT,
             53..61 => present ^ bits::LEVEL_TYPE,
             61..67 => present ^ bits::PERIODIC,
             67..74 => present ^ bits::NARROW,
             74..80 => present ^ bits::SET_COMPARATOR,
             80..90 => {
-                let route = u64::from(self.pin());
+                let route = u64::from(self.route_pin(n));
                 present & !(bits::ROUTE_MASK << bits::ROUTE_SHIFT) | route << bits::ROUTE_SHIFT
             }
             90..96 => present,
@@ -223,5 +238,22 @@ impl Maker {
         } else {
             ticks as u32
         }
+    }
+}
+
+/// A pin of a log: with settings mostly one that some timer can be routed to, often where it is after the reset.
+fn pin_for(settings: &Settings, random: &mut Random) -> u8 {
+    if *settings != Settings::USUAL && random.percent(70) {
+        let mask = random.choose(&settings.masks);
+        return if random.percent(30) {
+            mask.trailing_zeros() as u8
+        } else {
+            random.choose(&pins_of(mask))
+        };
+    }
+    if random.percent(25) {
+        random.choose(&[0, 23])
+    } else {
+        any_pin(random)
     }
 }

@@ -6,22 +6,28 @@
 
 mod choices;
 mod damage;
+mod given;
 mod halves;
 mod maker;
 mod moves;
 mod pause;
+mod routes;
 mod scenes;
+mod settings;
 mod short;
 mod states;
 mod stuck;
 mod torn;
 
 pub use damage::{damaged_log, short_damaged_log, Damage};
+pub use given::{made_of, refused_record, shown_record, Given};
+pub use settings::{broken_record, flawed_record, given_record, random_settings, Flaw};
 pub use short::{ticks_of, MOST_TICKS};
 pub use states::random_board;
 
 use crate::log::LONGEST;
 use crate::random::Random;
+use crate::settings::Settings;
 use maker::Maker;
 
 /// Sorts of logs that come in turn.
@@ -127,40 +133,42 @@ pub struct Log {
     pub key: u8,
 }
 
-/// The log with this number: the seed and the number decide it.
+/// The log with this number: the seed and the number decide it. It can be played on any board; this one is made on
+/// a board with document 01's settings.
 pub fn log(profile: Profile, seed: u64, number: u64) -> Vec<u8> {
     keyed_log(profile, seed, number).bytes
 }
 
 /// The same, with its pause key.
 pub fn keyed_log(profile: Profile, seed: u64, number: u64) -> Log {
-    paced_log(profile, Pace::Any, seed, number)
+    log_for(&Settings::USUAL, profile, Pace::Any, seed, number)
 }
 
 /// The log with this number whose every tick can be walked: its advances together are at most
 /// [`MOST_TICKS`].
 pub fn short_log(profile: Profile, seed: u64, number: u64) -> Vec<u8> {
-    paced_log(profile, Pace::Short, seed, number).bytes
+    log_for(&Settings::USUAL, profile, Pace::Short, seed, number).bytes
 }
 
 /// Such a log that begins with a long walk: half of its ticks in one advance, with a firing at each.
 pub fn walk_log(profile: Profile, seed: u64) -> Vec<u8> {
-    let mut maker = Maker::new(Pace::Short, seed);
+    let mut maker = Maker::new(Pace::Short, &Settings::USUAL, seed);
     maker.set_walk_scene();
     finish(maker, profile, &mut Random::new(!seed)).bytes
 }
 
-fn paced_log(profile: Profile, pace: Pace, seed: u64, number: u64) -> Log {
+/// The log with this number, made on a board with these settings.
+pub fn log_for(settings: &Settings, profile: Profile, pace: Pace, seed: u64, number: u64) -> Log {
     let mut random = Random::new(seed ^ number.wrapping_mul(0xD134_2543_DE82_EF95));
     if profile == Profile::Torn {
-        torn::log(pace, &mut random, number)
+        torn::log(settings, pace, &mut random, number)
     } else {
-        sound_log(profile, pace, &mut random)
+        sound_log(settings, profile, pace, &mut random)
     }
 }
 
-fn sound_log(profile: Profile, pace: Pace, random: &mut Random) -> Log {
-    finish(Maker::new(pace, random.any()), profile, random)
+fn sound_log(settings: &Settings, profile: Profile, pace: Pace, random: &mut Random) -> Log {
+    finish(Maker::new(pace, settings, random.any()), profile, random)
 }
 
 fn finish(mut maker: Maker, profile: Profile, random: &mut Random) -> Log {
@@ -171,6 +179,9 @@ fn finish(mut maker: Maker, profile: Profile, random: &mut Random) -> Log {
         60..95 => 300 + random.below(700),
         _ => u64::MAX,
     };
+    if !maker.has_usual_settings() {
+        maker.set_settings_scene();
+    }
     if random.percent(80) {
         maker.set_scene(profile);
     }

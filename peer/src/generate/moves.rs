@@ -10,6 +10,9 @@ use crate::timers::{comparator_of, configuration_of, COUNTER, ENABLE, STATUS};
 
 impl Maker {
     pub(super) fn move_by(&mut self, profile: Profile) {
+        if !self.has_usual_settings() && self.random.percent(8) {
+            return self.settings_move();
+        }
         let roll = self.random.below(100);
         match profile {
             Profile::Valid => match roll {

@@ -156,7 +156,7 @@ impl Maker {
     }
 
     fn press_by_pulse(&mut self) {
-        let n = self.timer();
+        let n = self.timer_at(self.key());
         self.write_timers(ENABLE, 0);
         self.calm();
         let route = u64::from(self.key()) << bits::ROUTE_SHIFT;

@@ -32,11 +32,11 @@ impl Maker {
         }
         let counter = landmark(&mut self.random);
         self.write_timers(COUNTER, counter);
-        let shared_pin = self.pin();
+        let shared_pin = self.shared_pin();
         let shared_due = counter.wrapping_add(1 + self.random.below(6));
         let (same_pin, same_due) = (self.random.percent(60), self.random.percent(50));
         for n in 0..TIMERS {
-            let pin = if same_pin { shared_pin } else { self.pin() };
+            let pin = if same_pin { shared_pin } else { self.route_pin(n) };
             let due = if same_due { shared_due } else { near(&mut self.random, counter) };
             let base = configuration(&mut self.random) & !bits::SET_COMPARATOR
                 | u64::from(pin) << bits::ROUTE_SHIFT;
@@ -65,7 +65,7 @@ impl Maker {
     }
 
     pub(super) fn set_level_scene_at(&mut self, pin: u8) {
-        let n = self.timer();
+        let n = self.timer_at(pin);
         self.write_timers(ENABLE, 0);
         self.calm();
         let word = low_word(&mut self.random, self.vectors[0]) & !(MASK | LEVEL | 0x700);
@@ -95,7 +95,7 @@ impl Maker {
                 self.write_part(configuration_of(n), part, present ^ other);
             }
             4 => {
-                let pin = u64::from(self.pin());
+                let pin = u64::from(self.route_pin(n));
                 let moved = present & !route | pin << bits::ROUTE_SHIFT;
                 self.write_timers(configuration_of(n), moved);
             }

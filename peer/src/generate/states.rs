@@ -1,20 +1,24 @@
 //! Random well-formed states.
 
 use super::choices::{any_pin, configuration, landmark, low_word, near, period, sometimes};
+use super::settings::{pins_of, random_settings};
 use crate::board::Board;
 use crate::controller::Controller;
 use crate::pin::{Pin, PINS, REMOTE_IRR};
 use crate::random::Random;
+use crate::settings::Settings;
 use crate::timer::{bits, Timer};
-use crate::timers::{Timers, TIMERS};
+use crate::timers::Timers;
 
-/// A random well-formed state.
+/// A random well-formed state, mostly with settings of its own.
 pub fn random_board(random: &mut Random) -> Board {
     let pins: Vec<u8> = (0..1 + random.below(4)).map(|_| any_pin(random)).collect();
     let counter = landmark(random);
-    let timer = [(); TIMERS].map(|()| random_timer(random, counter, &pins));
+    let settings = if random.percent(60) { random_settings(random) } else { Settings::USUAL };
+    let Settings { vendor, period: tick_period, masks, .. } = settings;
+    let timer = masks.map(|mask| random_timer(random, counter, &pins, mask));
     let mut board = Board {
-        timers: Timers { counter, enabled: random.percent(85), timer },
+        timers: Timers { counter, tick_period, vendor, enabled: random.percent(85), timer },
         controller: Controller {
             id: random.below(16) as u32,
             index: random.below(256) as u32,
@@ -40,11 +44,15 @@ fn random_pin(random: &mut Random) -> Pin {
     pin
 }
 
-fn random_timer(random: &mut Random, counter: u64, pins: &[u8]) -> Timer {
-    let mut timer = Timer::RESET;
+/// Its route is one of the pins if the mask has one of them.
+fn random_timer(random: &mut Random, counter: u64, pins: &[u8], mask: u32) -> Timer {
+    let mut timer = Timer::reset_to(mask);
     timer.comparator = near(random, counter);
     timer.period = period(random);
-    let route = u64::from(random.choose(pins)) << bits::ROUTE_SHIFT;
+    let all: Vec<u8> = pins_of(mask);
+    let shared: Vec<u8> = pins.iter().copied().filter(|pin| all.contains(pin)).collect();
+    let some = if shared.is_empty() || random.percent(10) { &all } else { &shared };
+    let route = u64::from(random.choose(some)) << bits::ROUTE_SHIFT;
     timer.write_configuration(configuration(random) | route);
     timer.status = timer.level_type && random.percent(40);
     timer

@@ -4,20 +4,21 @@ use super::short::shorten;
 use super::{sound_log, Log, Pace, Profile};
 use crate::log::{Reader, Record, LONGEST, MARK};
 use crate::random::Random;
+use crate::settings::Settings;
 
 /// The first logs are those that chance would make too rarely, whatever the seed: one of each length
 /// if the profiles come in turn.
 const FIXED: [usize; 5] = [0, LONGEST, LONGEST + 1, LONGEST + 1, LONGEST - 1];
 
-pub(super) fn log(pace: Pace, random: &mut Random, number: u64) -> Log {
-    let mut log = any_log(pace, random, number);
+pub(super) fn log(settings: &Settings, pace: Pace, random: &mut Random, number: u64) -> Log {
+    let mut log = any_log(settings, pace, random, number);
     if pace == Pace::Short {
         shorten(&mut log.bytes);
     }
     log
 }
 
-fn any_log(pace: Pace, random: &mut Random, number: u64) -> Log {
+fn any_log(settings: &Settings, pace: Pace, random: &mut Random, number: u64) -> Log {
     let turn = number as usize / Profile::ALL.len();
     if let Some(&length) = FIXED.get(turn) {
         return no_key(deliveries(length));
@@ -28,7 +29,7 @@ fn any_log(pace: Pace, random: &mut Random, number: u64) -> Log {
         5..9 => no_key(random_bytes(random)),
         _ => {
             let profile = random.choose(&Profile::SOUND);
-            let mut log = sound_log(profile, pace, random);
+            let mut log = sound_log(settings, profile, pace, random);
             for _ in 0..1 + random.below(10) / 8 {
                 damage(&mut log.bytes, random);
             }

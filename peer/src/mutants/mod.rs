@@ -1,18 +1,22 @@
 //! Shows that the comparison catches mistakes: each wrong model against the right one, on the
 //! same random logs, or on the same random sequences of calls if the mistake is one in a reset or in
 //! what is refused with 5, which no log shows. A mistake that isn't found is a hole in the
-//! generator. Mistakes of a pause screen are in [`screen`], those of a salvage in [`salvage`].
+//! generator. Mistakes of a pause screen are in [`screen`], those of a salvage in [`salvage`], those with settings
+//! records in [`settings`].
 
 mod salvage;
 mod screen;
+mod settings;
 
 use crate::abi::Reply;
-use crate::generate::{self, Profile, Sort};
-use crate::log::{records_of, replay_from_reset};
+use crate::fuzz::{Case as Given, Replay, Subject};
+use crate::generate::{Profile, Sort};
+use crate::log::records_of;
 use crate::sequence::{Maker, Sequence};
 use crate::shrink::shrink;
 use crate::wrong::salvage::SalvageMistake;
 use crate::wrong::screen::ScreenMistake;
+use crate::wrong::settings::SettingsMistake;
 use crate::wrong::{self, Mistake};
 
 /// Each mistake has to be found within so many logs.
@@ -38,8 +42,12 @@ pub fn run(seed: u64, logs: u64) -> bool {
     let found = Mistake::ALL.iter().filter(|&&mistake| is_found(mistake)).count();
     let screen = screen::Search::new(seed, logs).run();
     let salvage = salvage::Search::new(seed, logs).run();
-    let found = found + screen + salvage;
-    let all = Mistake::ALL.len() + ScreenMistake::ALL.len() + SalvageMistake::ALL.len();
+    let settings = settings::Search::new(seed, logs).run();
+    let found = found + screen + salvage + settings;
+    let all = Mistake::ALL.len()
+        + ScreenMistake::ALL.len()
+        + SalvageMistake::ALL.len()
+        + SettingsMistake::ALL.len();
     println!("{found} passed, {} failed", all - found);
     found == all
 }
@@ -48,7 +56,7 @@ pub fn run(seed: u64, logs: u64) -> bool {
 type Place = Result<String, String>;
 
 /// Prints a line for a mistake that has to be found in several places; answers whether it was.
-fn is_found_in(text: &str, places: [Option<Place>; 2]) -> bool {
+fn is_found_in(text: &str, places: &[Option<Place>]) -> bool {
     let words = places.iter().flatten().map(|place| match place {
         Ok(found) => format!("found after {found}"),
         Err(looked) => format!("NOT FOUND in {looked}"),
@@ -57,17 +65,21 @@ fn is_found_in(text: &str, places: [Option<Place>; 2]) -> bool {
     places.iter().flatten().all(Result::is_ok)
 }
 
-/// A log with its right output.
+/// A log, with its settings record if it has one, and its right output.
 struct Case {
-    log: Vec<u8>,
+    given: Given,
     right: String,
 }
 
 impl Case {
     fn new(seed: u64, number: u64) -> Case {
-        let log = generate::log(Profile::in_turn(number), seed, number);
-        Case { right: replay_from_reset(&log), log }
+        let given = Replay::case(Profile::in_turn(number), seed, number);
+        Case { right: Replay::output(&given), given }
     }
+}
+
+fn wrong_output(given: &Given, mistake: Mistake) -> String {
+    wrong::replay(given.settings.as_deref(), &given.log, mistake)
 }
 
 /// A sequence with its right replies.
@@ -84,13 +96,17 @@ impl Calls {
 
 fn look_in_logs(mistake: Mistake, cases: &[Case]) -> bool {
     let text = mistake.text();
-    let shows = |case: &Case| wrong::replay(&case.log, mistake) != case.right;
+    let shows = |case: &Case| wrong_output(&case.given, mistake) != case.right;
     let Some(place) = cases.iter().position(shows) else {
         println!("{text:<64} NOT FOUND in {} logs", cases.len());
         return false;
     };
-    let differs = |log: &[u8]| wrong::replay(log, mistake) != replay_from_reset(log);
-    let short = shrink(&cases[place].log, SHRINK_EFFORT, differs);
+    let given = &cases[place].given;
+    let differs = |log: &[u8]| {
+        let given = given.with_log(log.to_vec());
+        wrong_output(&given, mistake) != Replay::output(&given)
+    };
+    let short = shrink(&given.log, SHRINK_EFFORT, differs);
     let records = records_of(&short).0.len();
     println!("{text:<64} found after {:>3} logs, {records:>2} records", place + 1);
     true

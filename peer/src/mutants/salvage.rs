@@ -36,7 +36,7 @@ impl Search {
         let is_found = |mistake: SalvageMistake| {
             let in_logs = mistake.shows_in_logs().then(|| self.look_in_logs(mistake));
             let in_calls = mistake.shows_in_calls().then(|| self.look_in_calls(mistake));
-            is_found_in(mistake.text(), [in_logs, in_calls])
+            is_found_in(mistake.text(), &[in_logs, in_calls])
         };
         SalvageMistake::ALL.iter().filter(|&&mistake| is_found(mistake)).count()
     }

@@ -36,7 +36,7 @@ impl Search {
         let is_found = |mistake: ScreenMistake| {
             let in_logs = mistake.shows_in_logs().then(|| self.look_in_logs(mistake));
             let in_calls = mistake.shows_in_calls().then(|| self.look_in_calls(mistake));
-            is_found_in(mistake.text(), [in_logs, in_calls])
+            is_found_in(mistake.text(), &[in_logs, in_calls])
         };
         ScreenMistake::ALL.iter().filter(|&&mistake| is_found(mistake)).count()
     }
@@ -70,5 +70,5 @@ impl Search {
 
 fn wrong_output(case: &Case, mistake: ScreenMistake) -> String {
     let pin = case.pin.as_deref().expect("every case of a screen has a pin");
-    output(pin, &case.log, mistake)
+    output(case.settings.as_deref(), pin, &case.log, mistake)
 }

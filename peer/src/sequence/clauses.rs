@@ -3,6 +3,7 @@
 use crate::abi::{Board, Timer};
 use crate::pin::{LEVEL, MASK, REMOTE_IRR};
 use crate::random::Random;
+use crate::settings::{is_period, LONGEST_PERIOD};
 
 /// A clause.
 pub struct Clause {
@@ -37,6 +38,18 @@ pub fn stray_irr(board: &Board) -> Vec<usize> {
 /// What the clause of K4 says.
 const EDGE_WITHOUT_IRR: &str = "an edge entry has remote IRR 0";
 
+/// What K6 says of a route. A mask of 0 and a route above 23 go against other clauses.
+const ROUTE_IN_MASK: &str = "routes are in their masks";
+
+/// The names of the clauses of K6.
+pub const SETTINGS_CLAUSES: [&str; 5] = [
+    "the tick period is 1 to 100,000,000",
+    "the vendor fits 16 bits",
+    "masks are not 0",
+    "masks are below 2^24",
+    ROUTE_IN_MASK,
+];
+
 /// All clauses.
 pub const CLAUSES: &[Clause] = &[
     Clause {
@@ -53,7 +66,41 @@ pub const CLAUSES: &[Clause] = &[
         name: "the enable bit is 0 or 1",
         holds: |board| board.timers.enabled <= 1,
         break_it: |board, random| {
-            board.timers.enabled = random.choose(&[2, 3, 1 << 8, 1 << 32 | 1, 1 << 63]);
+            board.timers.enabled = random.choose(&[2, 3, 1 << 8, 1 << 16 | 1, 1 << 31]);
+            settle(board);
+        },
+    },
+    Clause {
+        name: "the tick period is 1 to 100,000,000",
+        holds: |board| is_period(board.timers.tick_period),
+        break_it: |board, random| {
+            let above = LONGEST_PERIOD + 1;
+            board.timers.tick_period = random.choose(&[0, 0, above, above, 1 << 27, u32::MAX]);
+        },
+    },
+    Clause {
+        name: "the vendor fits 16 bits",
+        holds: |board| board.timers.vendor >> 16 == 0,
+        break_it: |board, random| board.timers.vendor |= 1 << (16 + random.below(16)),
+    },
+    Clause {
+        name: "masks are not 0",
+        holds: |board| board.timers.masks.iter().all(|&mask| mask != 0),
+        break_it: |board, random| board.timers.masks[random.below(3) as usize] = 0,
+    },
+    Clause {
+        name: "masks are below 2^24",
+        holds: |board| board.timers.masks.iter().all(|mask| mask >> 24 == 0),
+        break_it: |board, random| {
+            let bit = random.choose(&[24, 24, 25, 31]);
+            board.timers.masks[random.below(3) as usize] |= 1 << bit;
+        },
+    },
+    Clause {
+        name: ROUTE_IN_MASK,
+        holds: |board| (0..3).all(|n| !has_stray_route(board, n)),
+        break_it: |board, random| {
+            lose_route(board, random.below(3) as usize, random);
             settle(board);
         },
     },
@@ -216,6 +263,26 @@ fn is_edge(board: &Board, pin: usize) -> bool {
 
 fn has_stray_irr(board: &Board, pin: usize) -> bool {
     is_edge(board, pin) && board.controller.entries.low[pin] & REMOTE_IRR != 0
+}
+
+fn has_stray_route(board: &Board, n: usize) -> bool {
+    let (mask, route) = (board.timers.masks[n], board.timers.timer[n].route);
+    mask != 0 && route <= 23 && mask >> route & 1 == 0
+}
+
+/// Takes the route out of its timer's mask, or moves it to a pin that isn't there.
+fn lose_route(board: &mut Board, n: usize, random: &mut Random) {
+    let (mask, route) = (&mut board.timers.masks[n], &mut board.timers.timer[n].route);
+    let outside: Vec<u16> = (0..24).filter(|pin| *mask >> pin & 1 == 0).collect();
+    if !outside.is_empty() && random.percent(60) {
+        *route = random.choose(&outside);
+        return;
+    }
+    *mask &= !(1 << *route);
+    if *mask == 0 {
+        // A neighbour: a test that is off by one takes it.
+        *mask = 1 << if *route == 0 { 1 } else { *route - 1 };
+    }
 }
 
 /// Puts remote IRR on an edge entry: that of the pin, or one that was level and waited for its end.

@@ -8,16 +8,19 @@ pub fn flip_bit(board: &mut Board, random: &mut Random) {
     let place = random.below(24) as usize;
     let bit = random.below(64);
     let entries = &mut board.controller.entries;
-    match random.below(16) {
+    match random.below(20) {
         0 => board.controller.id ^= 1 << (bit % 32),
         1 => board.controller.index ^= 1 << (bit % 32),
-        2 => board.timers.enabled ^= 1 << bit,
+        2 => board.timers.enabled ^= 1 << (bit % 32),
         3 => board.timers.counter ^= 1 << bit,
         4 | 5 => entries.low[place] ^= 1 << (bit % 32),
         6 => entries.destination[place] ^= 1 << (bit % 8),
         7 => entries.level[place] ^= 1 << (bit % 8),
         8 => entries.held[place] ^= 1 << (bit % 8),
         9 => board.outside[place] ^= 1 << (bit % 8),
+        10 => board.timers.tick_period ^= 1 << (bit % 32),
+        11 => board.timers.vendor ^= 1 << (bit % 32),
+        12 | 13 => board.timers.masks[place % 3] ^= 1 << (bit % 32),
         _ => {
             let timer = &mut board.timers.timer[random.below(3) as usize];
             flip_timer_bit(timer, random.below(9), bit);
@@ -46,7 +49,10 @@ pub fn random_memory(random: &mut Random) -> Board {
     Board {
         timers: Timers {
             counter: random.any(),
-            enabled: random.any(),
+            tick_period: random.any() as u32,
+            vendor: random.any() as u32,
+            masks: [(); 3].map(|()| random.any() as u32),
+            enabled: random.any() as u32,
             timer: [(); 3].map(|()| random_timer(random)),
         },
         controller: Controller {

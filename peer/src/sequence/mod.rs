@@ -1,5 +1,6 @@
 //! Random sequences of calls on lent memory, resets among them: the board's here, the mill's in
-//! [`mill`], the plain engine's in [`plain`]. A salvage keeps nothing from call to call; its calls are in [`salvage`].
+//! [`mill`], the plain engine's in [`plain`]. A salvage keeps nothing from call to call; its calls are in [`salvage`],
+//! and resets with a settings record in [`settings`].
 //!
 //! A sequence starts from any memory. Ill-formed memory stays as it is until a reset mends it.
 //! From then on the sequence goes on from the reset board, with the first records of a log, so
@@ -11,21 +12,25 @@ mod memory;
 pub mod mill;
 pub mod plain;
 pub mod salvage;
+pub mod settings;
 
+use crate::abi::settings::Resettable;
 use crate::abi::{Board, Call, Reply};
 use crate::board;
-use crate::generate::{self, random_board, Pace, Profile};
+use crate::generate::{self, log_for, random_board, random_settings, Pace, Profile};
 use crate::log::records_of;
 use crate::random::Random;
 use clauses::CLAUSES;
 
-pub use clauses::{broken, stray_irr};
+pub use clauses::{broken, stray_irr, SETTINGS_CLAUSES};
 
 /// What a sequence is about.
 #[derive(Clone, Copy, PartialEq, Eq, Debug)]
 pub enum Kind {
     /// A reset of any memory, then a random log.
     Log,
+    /// A random log on a board that was reset with settings.
+    Settings,
     /// Any calls on a random well-formed state.
     State,
     /// Arguments that a log can't have.
@@ -40,13 +45,21 @@ pub enum Kind {
 
 impl Kind {
     /// All kinds, in the order of their numbers.
-    pub const ALL: [Kind; 6] =
-        [Kind::Log, Kind::State, Kind::Wide, Kind::Broken, Kind::Flipped, Kind::Memory];
+    pub const ALL: [Kind; 7] = [
+        Kind::Log,
+        Kind::Settings,
+        Kind::State,
+        Kind::Wide,
+        Kind::Broken,
+        Kind::Flipped,
+        Kind::Memory,
+    ];
 
     /// What its calls are, in words.
     pub fn text(self) -> &'static str {
         match self {
             Kind::Log => "calls of random logs, behind a reset",
+            Kind::Settings => "calls of random logs, behind a reset with settings",
             Kind::State => "calls on random well-formed states",
             Kind::Wide => "calls with wide arguments",
             Kind::Broken => "calls on states with one clause broken",
@@ -124,6 +137,7 @@ impl Maker {
         self.log = records.into_iter().take(2_000).map(Call::from).collect();
         self.round += 1;
         self.reset_and_log();
+        self.log_with_settings();
         self.calls_on_states();
         self.rewrites();
         self.wide_calls();
@@ -175,6 +189,19 @@ impl Maker {
         let mut calls = vec![Call::Reset];
         calls.append(&mut self.log.clone());
         self.push(Kind::Log, start, calls);
+    }
+
+    /// The resets themselves are in [`settings`]: here is what goes on behind them.
+    fn log_with_settings(&mut self) {
+        for turn in 0..2 {
+            let settings = random_settings(&mut self.random);
+            let profile = Profile::SOUND[(self.round + turn) as usize % Profile::SOUND.len()];
+            let number = 2 * self.round + turn;
+            let log = log_for(&settings, profile, self.pace, self.seed, number);
+            let (records, _) = records_of(&log.bytes);
+            let calls = records.into_iter().take(300).map(Call::from).collect();
+            self.push(Kind::Settings, Board::reset_to(&settings), calls);
+        }
     }
 
     fn calls_on_states(&mut self) {

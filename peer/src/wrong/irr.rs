@@ -82,8 +82,8 @@ impl Wrong {
 }
 
 impl Mistake {
-    /// It is one in what is refused with 5.
-    pub(super) fn is_of_state(self) -> bool {
+    /// It is one in what becomes of remote IRR on an edge entry, which is refused with 5.
+    pub(super) fn is_of_stray_irr(self) -> bool {
         matches!(
             self,
             Mistake::EdgeIrrTaken

@@ -1,11 +1,28 @@
 //! Mistakes in reading a log.
 
 use super::{Mistake, Wrong};
-use crate::log::{self, records_of, Record, LONGEST, MARK};
+use crate::log::{self, chosen_settings, records_of, Record, LONGEST, MARK};
+use crate::settings::Settings;
 
-/// The whole output of a replay with a mistake.
-pub fn replay(log: &[u8], mistake: Mistake) -> String {
-    let mut model = Wrong::new(mistake);
+/// The whole output of a replay with a mistake, with a settings record if there is one.
+pub fn replay(record: Option<&[u8]>, log: &[u8], mistake: Mistake) -> String {
+    if mistake == Mistake::TooLongBeforeSettings && log.len() > LONGEST {
+        return "too long\n".to_string();
+    }
+    let record = record.filter(|_| mistake != Mistake::SettingsIgnored);
+    match (chosen_settings(record), mistake) {
+        (Ok(settings), _) => replay_with(&settings, log, mistake),
+        (Err(_), Mistake::SettingsRefusedGoesOn) => replay_with(&Settings::USUAL, log, mistake),
+        (Err(line), Mistake::SettingsRefusedAlone) => line.replace("settings ", ""),
+        (Err(line), Mistake::SettingsRefusedReplays) => {
+            line + &replay_with(&Settings::USUAL, log, mistake)
+        }
+        (Err(line), _) => line,
+    }
+}
+
+fn replay_with(settings: &Settings, log: &[u8], mistake: Mistake) -> String {
+    let mut model = Wrong::new(mistake, settings);
     let output = log::replay(&wrong_log(log, mistake), &mut model);
     damage_output(log, output, mistake)
 }

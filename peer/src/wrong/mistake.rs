@@ -196,6 +196,43 @@ mistakes! {
     SilentNoStatus: "a level timer without interrupt sets no status";
     ShortAdvance: "an advance takes 31 bits of ticks";
     DisabledCounts: "a disabled block counts ticks";
+    // Settings: what is shown of them.
+    CapabilityUsual: "the capability register shows document 01's settings";
+    VendorUsual: "the vendor reads 0x8086 whatever the settings";
+    PeriodUsual: "the period reads 100,000,000 whatever the settings";
+    VendorMisplaced: "the vendor stands in bits 15:0";
+    CapabilitySwapped: "period and vendor stand in each other's places";
+    PeriodSixteenBits: "the period has 16 bits";
+    PeriodHalfUsual: "the high half of the capability register is document 01's";
+    MaskReadsUsual: "a mask reads 0x00ffffff whatever the settings";
+    MaskHalfReadsUsual: "the high half of a configuration reads 0x00ffffff";
+    MaskReadsFirst: "every timer reads timer 0's mask";
+    MaskWritable: "a mask can be written";
+    MaskHalfWritable: "a mask can be written as a high half";
+    MaskWrittenHidden: "a written mask isn't shown, but routes go by it";
+    IdUsual: "the id starts at 0 whatever the settings";
+    IdBySettings: "index 0 reads the settings' id after a write";
+    ArbitrationBySettings: "index 2 reads the settings' id after a write";
+    // Settings: routes.
+    RouteByOldBit: "a route is tested by the old route's bit";
+    RouteMaskIgnored: "a route is kept only if it is above 23";
+    RouteOutsideIgnoresAll: "a route outside the mask ignores the whole write";
+    RouteOutsideKeepsStatus: "a route outside the mask keeps the status of an edge timer";
+    RouteOutsideLowest: "a route outside the mask becomes the mask's lowest pin";
+    RouteOutsideZero: "a route outside the mask becomes 0";
+    RouteByFirstMask: "every route is tested by timer 0's mask";
+    RouteByAnyMask: "a route is tested by the masks of all timers";
+    RouteBitShifted: "a route is tested by the bit above its own";
+    ResetRouteZero: "the reset route is 0 whatever the mask";
+    ResetRouteHighest: "the reset route is the mask's highest pin";
+    ResetRouteOfFirst: "every reset route is the lowest pin of timer 0's mask";
+    ResetRouteHidden: "the reset route reads 0 until one is written";
+    // Settings: the program.
+    SettingsIgnored: "the settings are ignored";
+    SettingsRefusedGoesOn: "a refused record replays with document 01's settings";
+    SettingsRefusedAlone: "a refused record prints refused, without settings before it";
+    SettingsRefusedReplays: "a refused record is printed, and the log is replayed";
+    TooLongBeforeSettings: "too long is tested before the settings";
     // The log.
     StrayByteIsMark: "stray bytes are taken for a wrong mark";
     KindIsShort: "an unknown kind at the log's end is taken for a cut record";
@@ -212,6 +249,11 @@ mistakes! {
     HeldEdgeIrrTaken: "remote IRR beside a held edge isn't refused";
     LastEdgeIrrTaken: "remote IRR on an edge entry of pin 23 isn't refused";
     EdgeIrrMended: "remote IRR on an edge entry is cleared, not refused";
+    TickPeriodUntested: "a tick period out of range isn't refused";
+    VendorUntested: "a vendor of more than 16 bits isn't refused";
+    MaskZeroUntested: "a mask of 0 isn't refused";
+    MaskAboveUntested: "a mask with bits above 23 isn't refused";
+    RouteUntested: "a route outside its mask isn't refused";
     // A reset.
     ResetRefuses: "a reset refuses an ill-formed board with 5";
     ResetMendsNothing: "a reset leaves an ill-formed board as it is";
@@ -226,4 +268,9 @@ mistakes! {
     ResetKeepsCounter: "a reset keeps the counter's number";
     ResetKeepsPeriod: "a reset keeps the periods";
     ResetZeroComparator: "a reset sets the comparators to 0";
+    ResetKeepsSettings: "a reset without settings keeps those of the board";
+    ResetKeepsVendor: "a reset without settings keeps the vendor";
+    ResetKeepsTickPeriod: "a reset without settings keeps the tick period";
+    ResetKeepsMasks: "a reset without settings keeps the masks";
+    ResetKeepsRoutes: "a reset keeps the routes";
 }

@@ -9,8 +9,10 @@ mod log;
 mod mistake;
 mod reads;
 mod reset;
+mod routes;
 pub mod salvage;
 pub mod screen;
+pub mod settings;
 mod time;
 mod writes;
 
@@ -22,11 +24,14 @@ use crate::board::{Board, Calls, Refusal};
 use crate::controller::Delivery;
 use crate::part::Part;
 use crate::pin::{Pin, DELIVERY_MODE, MASK, PINS, REMOTE_IRR};
+use crate::settings::Settings;
 use crate::timers::TIMERS;
 
 /// A model with a mistake.
 pub struct Wrong {
     mistake: Mistake,
+    /// What the board was reset with.
+    settings: Settings,
     board: Board,
     memory: Memory,
 }
@@ -50,12 +55,21 @@ struct Memory {
     wide: [Option<u64>; TIMERS],
     /// The half of a comparator that came since bit 6 was written.
     first_half: [Option<Part>; TIMERS],
+    /// A route above 23 that was written.
+    above: [Option<u64>; TIMERS],
+    /// The reset route isn't shown.
+    hidden: [bool; TIMERS],
+    /// The masks, if they can be written.
+    masks: [u32; TIMERS],
 }
 
 impl Wrong {
-    /// The wrong model after a reset.
-    pub fn new(mistake: Mistake) -> Wrong {
-        Wrong { mistake, board: Board::RESET, memory: Memory::default() }
+    /// The wrong model after a reset with settings.
+    pub fn new(mistake: Mistake, settings: &Settings) -> Wrong {
+        let (board, memory) = (Board::reset_to(settings), Memory::default());
+        let mut wrong = Wrong { mistake, settings: *settings, board, memory };
+        wrong.damage_settings();
+        wrong
     }
 
     fn has(&self, mistake: Mistake) -> bool {

@@ -58,19 +58,17 @@ impl Wrong {
 
     pub(super) fn wrong_read(&self, window: u64, width: u64, offset: u64, value: u64) -> u64 {
         if window == TIMER_BLOCK {
-            let whole = self.wrong_register(register_at(offset));
-            return self.wrong_part(Part::reached_by(width, offset), whole);
+            let (register, part) = (register_at(offset), Part::reached_by(width, offset));
+            let whole = self.wrong_register(register);
+            return self.damage_shown_half(register, part, self.wrong_part(part, whole));
         }
         let index = self.board.controller.index;
         if offset != DATA {
             return value;
         }
-        match self.mistake {
-            Mistake::ArbitrationZero if index == 2 => 0,
-            _ => match self.low_word_pin() {
-                None => value,
-                Some(number) => self.wrong_low(number, value),
-            },
+        match self.low_word_pin() {
+            None => self.wrong_id(index, value),
+            Some(number) => self.wrong_low(number, value),
         }
     }
 
@@ -89,10 +87,13 @@ impl Wrong {
 
     /// What a timer register reads as a whole.
     fn wrong_register(&self, register: u64) -> u64 {
-        let value = self.board.timers.read_register(register);
+        let value = self.damage_shown_settings(register, self.board.timers.read_register(register));
         let remembers = matches!(
             self.mistake,
-            Mistake::EdgeTypeKeepsStatus | Mistake::RouteAboveKeepsStatus | Mistake::EdgeSetsStatus
+            Mistake::EdgeTypeKeepsStatus
+                | Mistake::RouteAboveKeepsStatus
+                | Mistake::RouteOutsideKeepsStatus
+                | Mistake::EdgeSetsStatus
         );
         if register == STATUS && remembers {
             return (0..TIMERS).fold(value, |all, n| all | u64::from(self.memory.bits[n]) << n);

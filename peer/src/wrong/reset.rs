@@ -5,7 +5,9 @@ use super::{Memory, Mistake, Wrong};
 use crate::abi::{self, Call, Reply};
 use crate::board::{Board, Calls, Refusal};
 use crate::pin::{MASK, REMOTE_IRR};
-use crate::sequence::Sequence;
+use crate::sequence::{broken, Sequence};
+use crate::settings::{is_mask, is_period, Settings};
+use crate::timer::Timer;
 
 impl Mistake {
     /// It is one in a reset.
@@ -25,7 +27,29 @@ impl Mistake {
                 | Mistake::ResetKeepsCounter
                 | Mistake::ResetKeepsPeriod
                 | Mistake::ResetZeroComparator
+                | Mistake::ResetKeepsSettings
+                | Mistake::ResetKeepsVendor
+                | Mistake::ResetKeepsTickPeriod
+                | Mistake::ResetKeepsMasks
+                | Mistake::ResetKeepsRoutes
         )
+    }
+
+    /// The clause of "well formed" that isn't tested.
+    fn missing_clause(self) -> Option<&'static str> {
+        Some(match self {
+            Mistake::TickPeriodUntested => "the tick period is 1 to 100,000,000",
+            Mistake::VendorUntested => "the vendor fits 16 bits",
+            Mistake::MaskZeroUntested => "masks are not 0",
+            Mistake::MaskAboveUntested => "masks are below 2^24",
+            Mistake::RouteUntested => "routes are in their masks",
+            _ => return None,
+        })
+    }
+
+    /// It is one in what is refused with 5.
+    fn is_of_state(self) -> bool {
+        self.missing_clause().is_some() || self.is_of_stray_irr()
     }
 
     /// It shows in some log: every log starts at reset, and has neither a reset nor a board that is refused with 5.
@@ -45,12 +69,15 @@ pub fn replies(sequence: &Sequence, mistake: Mistake) -> Vec<Reply> {
 fn answer(call: Call, lent: &mut abi::Board, mistake: Mistake) -> Reply {
     match lent.model() {
         Some(board) if call == Call::Reset => {
-            let mut wrong = Wrong { board, ..Wrong::new(mistake) };
+            let mut wrong = Wrong { board, ..Wrong::new(mistake, &Settings::USUAL) };
             let reply = call.ask(&mut wrong);
             *lent = abi::Board::from(&wrong.board);
             reply
         }
         _ if mistake.is_of_state() && call != Call::Reset => {
+            if mistake.missing_clause().is_some_and(|clause| broken(lent) == [clause]) {
+                return Reply::default();
+            }
             answer_stray(call, lent, mistake).unwrap_or_else(|| call.answer(lent))
         }
         _ => call.answer(lent),
@@ -94,7 +121,34 @@ impl Wrong {
             Mistake::ResetKeepsCounter => timers.counter = before.timers.counter,
             Mistake::ResetKeepsPeriod => timer.for_each(|(timer, old)| timer.period = old.period),
             Mistake::ResetZeroComparator => timer.for_each(|(timer, _)| timer.comparator = 0),
-            _ => {}
+            Mistake::ResetKeepsRoutes => {
+                let kept = timer.filter(|(timer, old)| timer.allows(old.route));
+                kept.for_each(|(timer, old)| timer.route = old.route);
+            }
+            _ => self.keep_settings(before),
+        }
+    }
+
+    /// A reset without settings that keeps some of those that the board has, where they are in range.
+    fn keep_settings(&mut self, before: &Board) {
+        let keeps =
+            |one: Mistake| self.mistake == one || self.mistake == Mistake::ResetKeepsSettings;
+        let (vendor, period, masks) = (
+            keeps(Mistake::ResetKeepsVendor),
+            keeps(Mistake::ResetKeepsTickPeriod),
+            keeps(Mistake::ResetKeepsMasks),
+        );
+        let timers = &mut self.board.timers;
+        if vendor {
+            timers.vendor = before.timers.vendor;
+        }
+        if period && is_period(before.timers.tick_period) {
+            timers.tick_period = before.timers.tick_period;
+        }
+        for (timer, old) in timers.timer.iter_mut().zip(&before.timers.timer) {
+            if masks && is_mask(old.mask) {
+                *timer = Timer::reset_to(old.mask);
+            }
         }
     }
 }

@@ -43,7 +43,10 @@ impl Wrong {
         check_value(width, value)?;
         let before = self.board;
         let write = before.timers.part_write(width, offset, value);
-        if self.goes_its_own_way(&write) || self.goes_its_own_half_way(&write) {
+        if self.routes_its_own_way(&write)?
+            || self.goes_its_own_way(&write)
+            || self.goes_its_own_half_way(&write)
+        {
             return Ok(());
         }
         self.board.write(TIMER_BLOCK, width, offset, value)?;
@@ -194,10 +197,16 @@ impl Wrong {
             }
             Mistake::RouteModulo if route > 23 => {
                 timer.route = (route % 24) as u16;
+                timer.mask |= 1 << timer.route;
                 self.board.settle();
             }
             Mistake::RouteAboveKeepsStatus if route <= 23 => self.memory.bits[n] = false,
-            Mistake::EdgeTypeKeepsStatus | Mistake::RouteAboveKeepsStatus => {
+            Mistake::RouteOutsideKeepsStatus if route > 23 || timer.allows(route as u16) => {
+                self.memory.bits[n] = false;
+            }
+            Mistake::EdgeTypeKeepsStatus
+            | Mistake::RouteAboveKeepsStatus
+            | Mistake::RouteOutsideKeepsStatus => {
                 self.memory.bits[n] = !timer.level_type && (old.status || self.memory.bits[n]);
             }
             Mistake::InterruptOffClears if !timer.interrupt => timer.status = false,

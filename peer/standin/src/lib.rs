@@ -7,6 +7,7 @@ use std::slice::{from_raw_parts, from_raw_parts_mut};
 use peer::abi::mill::{Mill, MillCall};
 use peer::abi::plain::PlainCall;
 use peer::abi::salvage::{salvage, Salvaged};
+use peer::abi::settings::Resettable;
 use peer::abi::{Board, Call, Reply};
 
 fn answer(board: *mut Board, call: Call) -> Reply {
@@ -33,6 +34,20 @@ fn answer_plain(board: *mut Board, call: PlainCall) -> Reply {
 #[no_mangle]
 pub extern "C" fn nataqvoju_reset(board: *mut Board) -> Reply {
     answer(board, Call::Reset)
+}
+
+/// Resets the board with a settings record.
+///
+/// # Safety
+///
+/// Neither is null, the record has as many bytes as its length says, and both are lent for the length of the call.
+#[no_mangle]
+pub unsafe extern "C" fn nataqvoju_reset_settings(
+    board: *mut Board,
+    record: *const u8,
+    length: usize,
+) -> Reply {
+    (*board).reset_settings(from_raw_parts(record, length))
 }
 
 /// Reads a register.
@@ -93,6 +108,20 @@ pub extern "C" fn nataqvoju_mill(
     d: u64,
 ) -> Reply {
     answer_mill(mill, MillCall { kind, numbers: [a, b, c, d] })
+}
+
+/// Resets the mill with a settings record.
+///
+/// # Safety
+///
+/// As for a board.
+#[no_mangle]
+pub unsafe extern "C" fn nataqvoju_mill_reset_settings(
+    mill: *mut Mill,
+    record: *const u8,
+    length: usize,
+) -> Reply {
+    (*mill).reset_settings(from_raw_parts(record, length))
 }
 
 /// Any call of the plain engine.

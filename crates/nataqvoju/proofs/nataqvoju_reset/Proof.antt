@@ -38,8 +38,7 @@ use denote.Triple.Walked.{says, Stays, stay-ref, walkOf, AllGo, goes-ref, Walks,
 use denote.Triple.Clauses.{ensured, lasts}
 use Rattle.nataqvoju.specs.Lent.{outOf}
 use Rattle.board.specs.declared.Board.{Board}
-use Rattle.board.specs.declared.Call.the-variants as call
-use Rattle.board.specs.Step.{turnOf}
+use Rattle.board.specs.Step.{plainReset, turnOf}
 use Rattle.nataqvoju.specs.declared.Out.{Out}
 use Rattle.board.proofs.Board as T
 use Rattle.board.proofs.Board.Laws as T′
@@ -75,7 +74,7 @@ module _ {M : Type 1} (𝓤 : URA M) (H : Heap 𝓤) (A : Atoms 𝓤) (W : Given
   mach d = LL.val T.the-type T′.the-laws d
 
   abbrev Said : Out → Type 0
-  Said r = r ≡ outOf (turnOf h call.Reset)
+  Said r = r ≡ outOf (turnOf h plainReset)
 
   abbrev Post : Val → SProp 𝓤
   Post = walkOf 𝓤 H A f.ended stayed (f.clauses 𝓤 H A at-mem run) .post (((κ, tt), (q, tt), tt, x, at), tt)

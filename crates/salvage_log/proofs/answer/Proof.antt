@@ -1,7 +1,7 @@
 use mathlib.Core.Path.{sym}
 use lib.Seq.{length-take-le}
 use Rattle.salvage_log.specs.Output.{outputOf, fileOf}
-use Rattle.salvage_log.proofs.Outputs.{within}
+use Rattle.lines.proofs.Whole.{within}
 use borrow.Author.Needs.{needs}
 use Rattle.salvage_log.proofs.answer.Statement.{statement}
 use Rattle.salvage_log.proofs.answer.Tie as tie

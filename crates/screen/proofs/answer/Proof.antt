@@ -1,7 +1,7 @@
 use mathlib.Core.Path.{sym}
 use lib.Seq.{length-take-le}
 use Rattle.screen.specs.Output.{outputOf}
-use Rattle.screen.proofs.Outputs.{within}
+use Rattle.lines.proofs.Whole.{within}
 use borrow.Author.Needs.{needs}
 use Rattle.screen.proofs.answer.Statement.{statement}
 use Rattle.screen.proofs.answer.Tie as tie

@@ -7,17 +7,17 @@ use Rattle.screen.proofs.told.Statement.{statement}
 use Rattle.screen.proofs.told.Tie as tie
 use Rattle.screen.proofs.told.Reads as reads
 use Rattle.screen.proofs.told.Lts as lts
-use Rattle.mill.proofs.Mill.reset.Reads as reset-reads
+use Rattle.mill.proofs.Mill.reset_to.Reads as reset-to-reads
 use Rattle.mill.proofs.Mill.tell.Reads as tell-reads
 
-reset-requires : tie.Need-reset-requires
-reset-requires c κs = search needs
+reset-to-requires : tie.Need-reset-to-requires
+reset-to-requires c κs = search needs
 
 tell-requires : tie.Need-tell-requires
 tell-requires c κs = search needs
 
 returns : tie.Need-returns
-returns c = c .tell .ensures ∙ ap (λ (m : Mill). turnOf m (millcall.Tell (c .before .before .args .pin))) (c .before .reset .ensures)
+returns c = c .tell .ensures ∙ ap (λ (m : Mill). turnOf m (millcall.Tell (c .before .before .args .pin))) (c .before .reset-to .ensures)
 
 pub told-spec : {M : Type 1} → statement M
-told-spec = tie.close (tie.spec reset-requires tell-requires returns)
+told-spec = tie.close (tie.spec reset-to-requires tell-requires returns)

@@ -1,7 +1,7 @@
 use mathlib.Core.Path.{sym}
 use lib.Seq.{length-take-le}
 use Rattle.log.specs.Output.{outputOf}
-use Rattle.log.proofs.Outputs.{within}
+use Rattle.lines.proofs.Whole.{within}
 use borrow.Author.Needs.{needs}
 use Rattle.twin.proofs.answer.Statement.{statement}
 use Rattle.twin.proofs.answer.Tie as tie

@@ -1,9 +1,10 @@
 //! What the calls of the mill were, and what they did to its screen.
 
-use lent::irr;
-use peer::abi::mill::Asked;
+use lent::{irr, settings};
+use peer::abi::mill::{Asked, Mill};
 use peer::abi::Call;
 use peer::sequence::mill::{broken, Kind, Step};
+use peer::sequence::settings::Resetting;
 
 use super::happenings::{happenings, Happening};
 
@@ -28,6 +29,11 @@ pub struct Counts {
     words: [[u64; WORDS.len()]; IN_WORDS.len()],
     happenings: [u64; Happening::ALL.len()],
     irr: irr::Counts,
+    settings: settings::Counts,
+    /// Resets with a settings record.
+    with_record: settings::Resets,
+    /// Such resets of a well-formed mill, done and refused, by its word.
+    reset_words: [[u64; WORDS.len()]; 2],
 }
 
 impl Counts {
@@ -42,6 +48,9 @@ impl Counts {
             words: [[0; WORDS.len()]; IN_WORDS.len()],
             happenings: [0; Happening::ALL.len()],
             irr: irr::Counts::new(&CALLS),
+            settings: settings::Counts::default(),
+            with_record: settings::Resets::default(),
+            reset_words: [[0; WORDS.len()]; 2],
         }
     }
 
@@ -56,6 +65,7 @@ impl Counts {
         };
         let boards = (&step.before.board, &step.after.board);
         self.irr.note(call, asked, boards, step.reply.number);
+        self.settings.note(asked, boards, step.reply.number);
         if number == 5 {
             let whole = step.before.board.is_well_formed();
             let side = if whole { &mut self.screen } else { &mut self.board };
@@ -65,6 +75,15 @@ impl Counts {
         self.taken[call] += 1;
         self.note_word(step, number);
         happenings(step, |happening| self.happenings[happening as usize] += 1);
+    }
+
+    /// Counts a reset with a settings record.
+    pub fn note_reset(&mut self, call: &Resetting<Mill>) {
+        self.with_record.note(call);
+        if call.before.is_well_formed() {
+            let row = usize::from(call.right().0.number != 0);
+            self.reset_words[row][usize::from(call.before.screen.word)] += 1;
+        }
     }
 
     fn note_word(&mut self, step: &Step, number: usize) {
@@ -101,6 +120,14 @@ impl Counts {
             rows.push((happening.text().to_string(), self.happenings[happening as usize]));
         }
         rows.extend(self.irr.rows());
+        rows.extend(self.settings.rows());
+        rows.extend(self.with_record.rows());
+        for (row, what) in ["done", "refused"].iter().enumerate() {
+            for (word, name) in WORDS.iter().enumerate() {
+                let count = self.reset_words[row][word];
+                rows.push((format!("reset with settings {what} in {name}"), count));
+            }
+        }
         rows
     }
 }

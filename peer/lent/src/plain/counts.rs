@@ -1,6 +1,6 @@
 //! What the calls of the plain engine were, and what came of them.
 
-use lent::irr;
+use lent::{irr, settings};
 use peer::abi::Call;
 use peer::sequence::plain::Step;
 use peer::sequence::Kind;
@@ -21,6 +21,7 @@ pub struct Counts {
     refused: [u64; CALLS.len()],
     happenings: [u64; HAPPENINGS.len()],
     irr: irr::Counts,
+    settings: settings::Counts,
     ticks: u64,
 }
 
@@ -34,6 +35,7 @@ impl Counts {
             refused: [0; CALLS.len()],
             happenings: [0; HAPPENINGS.len()],
             irr: irr::Counts::new(&CALLS),
+            settings: settings::Counts::default(),
             ticks: 0,
         }
     }
@@ -47,6 +49,7 @@ impl Counts {
         side[call] += 1;
         let boards = (&step.before, &step.after);
         self.irr.note(call, step.call.asked(), boards, step.reply.number);
+        self.settings.note(step.call.asked(), boards, step.reply.number);
         for (count, (_, happens)) in self.happenings.iter_mut().zip(HAPPENINGS) {
             *count += u64::from(happens(step));
         }
@@ -71,6 +74,7 @@ impl Counts {
             rows.push((text.to_string(), count));
         }
         rows.extend(self.irr.rows());
+        rows.extend(self.settings.rows());
         rows.push(("ticks walked".to_string(), self.ticks));
         rows
     }

@@ -1,5 +1,5 @@
 //! `plain-check`: the library's lent entry for the plain engine against the second model, call by call: the
-//! reply and all 288 bytes of the board after every call.
+//! reply and all 304 bytes of the board after every call.
 
 mod counts;
 mod happenings;

@@ -2,13 +2,12 @@
 //! every byte of the log and of both buffers, and the bytes around them.
 
 mod counts;
-mod guarded;
 
 use std::process::ExitCode;
 
 use counts::Counts;
-use guarded::Guarded;
 use lent::check::Tally;
+use lent::guarded::Guarded;
 use peer::abi::salvage::Salvaged;
 use peer::sequence::salvage::{Lending, Maker, Returned};
 

@@ -6,6 +6,7 @@ mod long;
 use super::maker::Maker;
 use super::{Pace, Profile, Sort};
 use crate::random::Random;
+use crate::settings::Settings;
 
 /// What has happened to a log.
 #[derive(Clone, Copy, PartialEq, Eq, Debug)]
@@ -100,7 +101,7 @@ fn some_records(random: &mut Random) -> Vec<u8> {
         _ => 50 + random.below(300),
     };
     let profile = random.choose(&Profile::SOUND);
-    let mut maker = Maker::new(Pace::Any, random.any());
+    let mut maker = Maker::new(Pace::Any, &Settings::USUAL, random.any());
     while maker.records < records {
         maker.move_by(profile);
     }

@@ -6,11 +6,12 @@ mod clauses;
 use super::calls::{rewrites, waiting_pin};
 use super::memory;
 use crate::abi::mill::{Asked, Mill, MillCall, Screen};
+use crate::abi::settings::Resettable;
 use crate::abi::{Board, Call, Reply};
-use crate::generate::{self, random_board, Profile};
+use crate::generate::{log_for, random_board, random_settings, Pace, Profile};
 use crate::log::records_of;
-use crate::mill;
 use crate::random::Random;
+use crate::settings::Settings;
 use calls::littered;
 
 pub use clauses::broken;
@@ -210,12 +211,16 @@ impl Maker {
         self.sequences.push(Sequence { kind: Kind::State, start, calls });
     }
 
-    /// A log of a pause key's life, told at the start, and between its records what no log has.
+    /// A log of a pause key's life, on a mill that was reset with settings or without, told at the start, and between
+    /// its records what no log has.
     fn life(&mut self) {
-        let log = generate::keyed_log(Profile::Pause, self.seed, self.round);
+        let has_settings = self.random.percent(40);
+        let settings =
+            if has_settings { random_settings(&mut self.random) } else { Settings::USUAL };
+        let log = log_for(&settings, Profile::Pause, Pace::Any, self.seed, self.round);
         self.round += 1;
         let (records, _) = records_of(&log.bytes);
-        let start = Mill::from(&mill::Mill::RESET);
+        let start = Mill::reset_to(&settings);
         let mut calls = vec![MillCall::new(Asked::Tell(log.key.into()))];
         for record in records {
             calls.push(littered(Asked::Board(Call::from(record)), &mut self.random));

@@ -2,10 +2,10 @@
 
 use super::{Mistake, WrongMill};
 use crate::abi::mill::{kind, Asked, Mill, MillCall};
-use crate::abi::{refused, Reply};
+use crate::abi::{refused, Board, Reply};
 use crate::board::Refusal;
 use crate::sequence::mill::broken;
-use crate::sequence::stray_irr;
+use crate::sequence::{broken as broken_board, stray_irr, SETTINGS_CLAUSES};
 
 /// Makes a call as an entry with a mistake answers it.
 pub fn answer(call: MillCall, lent: &mut Mill, mistake: Mistake) -> Reply {
@@ -82,6 +82,17 @@ fn before_the_state(call: MillCall, lent: &Mill, mistake: Mistake) -> Option<Rep
         {
             Some(Reply::default())
         }
+        (Mistake::SettingsUntested, _)
+            if broken(lent).is_empty() && breaks_settings(&lent.board, is_of_ranges) =>
+        {
+            Some(Reply::default())
+        }
+        (Mistake::RouteUntested, _)
+            if broken(lent).is_empty()
+                && breaks_settings(&lent.board, |name| !is_of_ranges(name)) =>
+        {
+            Some(Reply::default())
+        }
         (Mistake::PinBeforeState, Asked::Tell(pin)) if pin > 23 => Some(refused(Refusal::Pin)),
         (Mistake::TriggerBeforeState, Asked::Tell(pin)) => {
             entry(pin).filter(|low| low & 1 << 15 != 0).map(|_| refused(Refusal::Trigger))
@@ -89,4 +100,17 @@ fn before_the_state(call: MillCall, lent: &Mill, mistake: Mistake) -> Option<Rep
         (Mistake::UnknownBeforeState, Asked::Unknown) => Some(refused(Refusal::Kind)),
         _ => None,
     }
+}
+
+/// The board is ill-formed for its settings alone, and by a clause of this sort.
+fn breaks_settings(board: &Board, is_it: impl Fn(&str) -> bool) -> bool {
+    match broken_board(board).as_slice() {
+        [name] => SETTINGS_CLAUSES.contains(name) && is_it(name),
+        _ => false,
+    }
+}
+
+/// The clause is about the settings themselves, not about a route.
+fn is_of_ranges(name: &str) -> bool {
+    !name.contains("routes")
 }

@@ -99,6 +99,8 @@ mistakes! {
     EarlyVectorUntested: "a vector in running or asked isn't refused", "c";
     RunningEdgeUntested: "running beside a held edge isn't refused", "c";
     BoardUntested: "resume doesn't test the board", "c";
+    SettingsUntested: "settings out of range aren't refused by a mill", "c";
+    RouteUntested: "a route outside its mask isn't refused by a mill", "c";
     EdgeIrrUntested: "remote IRR on an edge entry isn't refused by a mill", "c";
     PinBeforeState: "3 is tested before 5", "c";
     TriggerBeforeState: "14 is tested before 5", "c";
@@ -117,6 +119,9 @@ mistakes! {
     PinWraps: "a long pin is taken modulo 2^64", "l";
     ZerosRefused: "leading zeros are refused", "l";
     RefusedGoesOn: "a refused pin replays without a screen", "l";
+    PinBeforeSettings: "the pin is tested before the settings", "l";
+    TooLongBeforeSettings: "too long is tested before the settings", "l";
+    RefusedSettingsGoOn: "a refused record goes on with document 01's settings", "l";
 }
 
 impl ScreenMistake {

@@ -1,20 +1,32 @@
 //! The program `screen` with a mistake.
 
 use super::{Mistake, WrongMill};
-use crate::log::{replay_from_reset, LONGEST};
+use crate::board::Board;
+use crate::log::{chosen_settings, replay_from, LONGEST};
 use crate::mill::Mill;
 use crate::screen::{pin_of, screen};
+use crate::settings::Settings;
 
-/// The whole output for a pin and a log.
-pub fn output(pin: &str, log: &[u8], mistake: Mistake) -> String {
+/// The whole output for a pin and a log, with a settings record if there is one.
+pub fn output(record: Option<&[u8]>, pin: &str, log: &[u8], mistake: Mistake) -> String {
     let number = wrong_pin(pin, mistake);
+    let settings = match (chosen_settings(record), mistake) {
+        (Ok(settings), _) => settings,
+        (Err(_), Mistake::PinBeforeSettings) if number > 23 => return "refused 3\n".to_string(),
+        (Err(_), Mistake::TooLongBeforeSettings) if log.len() > LONGEST => {
+            return "too long\n".to_string();
+        }
+        (Err(_), Mistake::RefusedSettingsGoOn) => Settings::USUAL,
+        (Err(line), _) => return line,
+    };
     if mistake == Mistake::TooLongFirst && log.len() > LONGEST {
         return "too long\n".to_string();
     }
-    let mut mill = WrongMill::new(mistake, Mill::RESET);
+    let board = Board::reset_to(&settings);
+    let mut mill = WrongMill::new(mistake, Mill { board, screen: None });
     let right = screen(number, log, &mut mill);
     match mistake {
-        Mistake::RefusedGoesOn if right == "refused 3\n" => replay_from_reset(log),
+        Mistake::RefusedGoesOn if right == "refused 3\n" => replay_from(record, log),
         Mistake::TellingSilent => match right.split_once('\n') {
             Some((first, rest)) if first.starts_with("screen") => rest.to_string(),
             _ => right,

@@ -42,6 +42,15 @@ enum-told-11 c = search needs
 enum-told-12 : tie.Need-enum-told-12
 enum-told-12 c = search needs
 
+enum-told-13 : tie.Need-enum-told-13
+enum-told-13 c = search needs
+
+enum-told-14 : tie.Need-enum-told-14
+enum-told-14 c = search needs
+
+enum-told-15 : tie.Need-enum-told-15
+enum-told-15 c = search needs
+
 returns : tie.Need-returns
 unfolding numberOf
 returns c = sym (ap numberOf (c .enum-told .given .1))
@@ -90,6 +99,18 @@ returns-12 : tie.Need-returns-12
 unfolding numberOf
 returns-12 c = sym (ap numberOf (c .enum-told12 .given .1))
 
+returns-13 : tie.Need-returns-13
+unfolding numberOf
+returns-13 c = sym (ap numberOf (c .enum-told13 .given .1))
+
+returns-14 : tie.Need-returns-14
+unfolding numberOf
+returns-14 c = sym (ap numberOf (c .enum-told14 .given .1))
+
+returns-15 : tie.Need-returns-15
+unfolding numberOf
+returns-15 c = sym (ap numberOf (c .enum-told15 .given .1))
+
 pub number-spec : {M : Type 1} → statement M
 number-spec =
     tie.close
@@ -106,6 +127,9 @@ number-spec =
     enum-told-10
     enum-told-11
     enum-told-12
+    enum-told-13
+    enum-told-14
+    enum-told-15
     returns
     returns-2
     returns-3
@@ -117,4 +141,7 @@ number-spec =
     returns-9
     returns-10
     returns-11
-    returns-12)
+    returns-12
+    returns-13
+    returns-14
+    returns-15)

@@ -1,8 +1,6 @@
 use mathlib.Core.Path.{sym, ap, _∙_}
-use Rattle.answers.specs.declared.Answer.the-variants as answer
-use Rattle.board.specs.declared.Board.{Board}
-use Rattle.board.specs.State.{turn}
-use Rattle.board.specs.Step.{servedOf, turnOf}
+use Rattle.board.specs.Step.{turnOf}
+use Rattle.board.proofs.Served.{turn-reset}
 use borrow.Author.Needs.{needs}
 use Rattle.board.proofs.Board.step.Statement.{statement}
 use Rattle.board.proofs.Board.step.Tie as tie
@@ -12,7 +10,7 @@ use Rattle.board.proofs.Board.advance.Reads as advance-reads
 use Rattle.board.proofs.Board.deliver.Reads as deliver-reads
 use Rattle.board.proofs.Board.end.Reads as end-reads
 use Rattle.board.proofs.Board.read.Reads as read-reads
-use Rattle.board.proofs.Board.reset.Reads as reset-reads
+use Rattle.board.proofs.Board.resetting.Reads as resetting-reads
 use Rattle.board.proofs.Board.wire.Reads as wire-reads
 use Rattle.board.proofs.Board.write.Reads as write-reads
 
@@ -52,11 +50,11 @@ enum-told c = search needs
 deliver-requires : tie.Need-deliver-requires
 deliver-requires c κs = search needs
 
-enum-told-2 : tie.Need-enum-told-2
-enum-told-2 c = search needs
+enum-known-call-6 : tie.Need-enum-known-call-6
+enum-known-call-6 c = search needs
 
-reset-requires : tie.Need-reset-requires
-reset-requires c κs = search needs
+resetting-requires : tie.Need-resetting-requires
+resetting-requires c κs = search needs
 
 returns : tie.Need-returns
 returns c = c .read .ensures ∙ ap (turnOf (c .before .before .before .before .args .self)) (sym (c .before .before .call .given .1))
@@ -77,10 +75,9 @@ returns-6 : tie.Need-returns-6
 returns-6 c = c .deliver .ensures ∙ ap (turnOf (c .before .before .before .args .self)) (sym (c .before .enum-told .given .1))
 
 returns-7 : tie.Need-returns-7
-unfolding turnOf servedOf
 returns-7 c =
-    ap (λ (b : Board). turn b answer.Done) (c .reset .ensures)
-    ∙ ap (turnOf (c .before .before .before .args .self)) (sym (c .before .enum-told2 .given .1))
+    let s = c .before .before .before .before .args .self in
+    c .resetting .ensures ∙ sym (turn-reset s _) ∙ ap (turnOf s) (sym (c .before .before .call6 .given .1))
 
 pub step-spec : {M : Type 1} → statement M
 step-spec =
@@ -98,8 +95,8 @@ step-spec =
     advance-requires
     enum-told
     deliver-requires
-    enum-told-2
-    reset-requires
+    enum-known-call-6
+    resetting-requires
     returns
     returns-2
     returns-3

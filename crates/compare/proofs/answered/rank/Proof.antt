@@ -42,6 +42,15 @@ enum-told-11 c = search needs
 enum-told-12 : tie.Need-enum-told-12
 enum-told-12 c = search needs
 
+enum-told-13 : tie.Need-enum-told-13
+enum-told-13 c = search needs
+
+enum-told-14 : tie.Need-enum-told-14
+enum-told-14 c = search needs
+
+enum-told-15 : tie.Need-enum-told-15
+enum-told-15 c = search needs
+
 returns : tie.Need-returns
 unfolding rankOf
 returns c = sym (ap rankOf (c .enum-told .given .1))
@@ -90,6 +99,18 @@ returns-12 : tie.Need-returns-12
 unfolding rankOf
 returns-12 c = sym (ap rankOf (c .enum-told12 .given .1))
 
+returns-13 : tie.Need-returns-13
+unfolding rankOf
+returns-13 c = sym (ap rankOf (c .enum-told13 .given .1))
+
+returns-14 : tie.Need-returns-14
+unfolding rankOf
+returns-14 c = sym (ap rankOf (c .enum-told14 .given .1))
+
+returns-15 : tie.Need-returns-15
+unfolding rankOf
+returns-15 c = sym (ap rankOf (c .enum-told15 .given .1))
+
 pub rank-spec : {M : Type 1} → statement M
 rank-spec =
     tie.close
@@ -106,6 +127,9 @@ rank-spec =
     enum-told-10
     enum-told-11
     enum-told-12
+    enum-told-13
+    enum-told-14
+    enum-told-15
     returns
     returns-2
     returns-3
@@ -117,4 +141,7 @@ rank-spec =
     returns-9
     returns-10
     returns-11
-    returns-12)
+    returns-12
+    returns-13
+    returns-14
+    returns-15)

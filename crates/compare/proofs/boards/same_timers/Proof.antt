@@ -4,6 +4,7 @@ use Rattle.compare.proofs.boards.same_timers.Statement.{statement}
 use Rattle.compare.proofs.boards.same_timers.Tie as tie
 use Rattle.compare.proofs.boards.same_timers.Reads as reads
 use Rattle.compare.proofs.boards.same_timers.Lts as lts
+use Rattle.compare.proofs.boards.same_settings.Reads as same-settings-reads
 use Rattle.compare.proofs.boards.same_timer.Reads as same-timer-reads
 
 element-copy-out-x0 : tie.Need-element-copy-out-x0
@@ -24,6 +25,9 @@ element-copy-out-y1 c = search needs
 element-copy-out-y2 : tie.Need-element-copy-out-y2
 element-copy-out-y2 c = search needs
 
+same-settings-requires : tie.Need-same-settings-requires
+same-settings-requires c κs = search needs
+
 same-timer-requires : tie.Need-same-timer-requires
 same-timer-requires c κs = search needs
 
@@ -35,7 +39,7 @@ same-timer-requires-3 c κs = search needs
 
 returns : tie.Need-returns
 unfolding sameTimers
-returns c = rw (c .before .before .same-timer .ensures, c .before .same-timer2 .ensures, c .same-timer3 .ensures)
+returns c = rw (c .before .before .before .same-settings .ensures, c .before .before .same-timer .ensures, c .before .same-timer2 .ensures, c .same-timer3 .ensures)
 
 pub same-timers-spec : {M : Type 1} → statement M
 same-timers-spec =
@@ -47,6 +51,7 @@ same-timers-spec =
     element-copy-out-y0
     element-copy-out-y1
     element-copy-out-y2
+    same-settings-requires
     same-timer-requires
     same-timer-requires-2
     same-timer-requires-3

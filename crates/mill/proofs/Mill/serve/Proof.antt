@@ -51,8 +51,8 @@ enum-told c = search needs
 deliver-requires : tie.Need-deliver-requires
 deliver-requires c κs = search needs
 
-enum-told-2 : tie.Need-enum-told-2
-enum-told-2 c = search needs
+enum-known-call-6 : tie.Need-enum-known-call-6
+enum-known-call-6 c = search needs
 
 renew-requires : tie.Need-renew-requires
 renew-requires c κs = search needs
@@ -76,7 +76,7 @@ returns-6 : tie.Need-returns-6
 returns-6 c = c .deliver .ensures ∙ ap (λ (x : Call). turnOf (c .before .before .before .args .self) (millcall.Board x)) (sym (c .before .enum-told .given .1))
 
 returns-7 : tie.Need-returns-7
-returns-7 c = c .renew .ensures ∙ ap (λ (x : Call). turnOf (c .before .before .before .args .self) (millcall.Board x)) (sym (c .before .enum-told2 .given .1))
+returns-7 c = c .renew .ensures ∙ ap (λ (x : Call). turnOf (c .before .before .before .before .args .self) (millcall.Board x)) (sym (c .before .before .call6 .given .1))
 
 pub serve-spec : {M : Type 1} → statement M
 serve-spec =
@@ -94,7 +94,7 @@ serve-spec =
     advance-requires
     enum-told
     deliver-requires
-    enum-told-2
+    enum-known-call-6
     renew-requires
     returns
     returns-2

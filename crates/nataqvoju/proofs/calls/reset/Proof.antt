@@ -1,7 +1,7 @@
 use mathlib.Core.Path.{sym, ap, _∙_}
 use Rattle.answers.specs.Numbers.{numbersOf}
 use Rattle.board.specs.declared.Turn.{Turn}
-use Rattle.board.proofs.Served.{turn-reset}
+use Rattle.board.proofs.Served.{reset-plain}
 use borrow.Author.Needs.{needs}
 use Rattle.nataqvoju.proofs.calls.reset.Statement.{statement}
 use Rattle.nataqvoju.proofs.calls.reset.Tie as tie
@@ -18,7 +18,7 @@ numbers-requires c κs = search needs
 
 returns : tie.Need-returns
 returns c =
-    let done = sym (turn-reset (c .before .before .args .b)) in
+    let done = sym (reset-plain (c .before .before .args .b)) in
     λ i. record {
       board = (c .before .reset .ensures ∙ ap (λ (t : Turn). t .board) done) i;
       numbers = (c .numbers .ensures ∙ ap (λ (t : Turn). numbersOf (t .answer)) done) i;

@@ -1,5 +1,9 @@
 use Rattle.nataqvoju_mill.specs.Kinds.{calledOf}
 use Rattle.nataqvoju_mill.specs.Lent.{outOf}
+use Rattle.settings.specs.declared.Settings.{Settings}
+use Rattle.board.specs.declared.Call.the-variants as call
+use Rattle.mill.specs.declared.MillCall.the-variants as millcall
+use Rattle.mill.specs.Mill.{turnOf}
 use borrow.Author.Tests.{ne-eqb}
 use Prim.Native.Nat.{ℕ}
 use mathlib.Core.Path.{sym, ap, _∙_}
@@ -17,6 +21,7 @@ use Rattle.mill.proofs.Mill.resume.Reads as resume-reads
 use Rattle.mill.proofs.Mill.tell.Reads as tell-reads
 use Rattle.mill.proofs.Mill.wire.Reads as wire-reads
 use Rattle.mill.proofs.Mill.write.Reads as write-reads
+use Rattle.settings.proofs.Settings.standard.Reads as standard-reads
 use Rattle.nataqvoju_mill.proofs.kinds.out.Reads as out-reads
 use Rattle.nataqvoju_mill.proofs.kinds.unknown.Reads as unknown-reads
 
@@ -106,6 +111,9 @@ returns-8 : tie.Need-returns-8
 unfolding calledOf
 returns-8 c = c .out8 .ensures ∙ ap outOf (c .before .tell .ensures) ∙ sym (ap (λ (k : ℕ). outOf (calledOf (c .before .before .before .before .before .before .before .before .before .before .args .m) k (c .before .before .before .before .before .before .before .before .before .before .args .p) (c .before .before .before .before .before .before .before .before .before .before .args .q) (c .before .before .before .before .before .before .before .before .before .before .args .r) (c .before .before .before .before .before .before .before .before .before .before .args .s))) (c .before .before .if8 .taken))
 
+standard-requires : tie.Need-standard-requires
+standard-requires c κs = search needs
+
 renew-requires : tie.Need-renew-requires
 renew-requires c κs = search needs
 
@@ -114,7 +122,11 @@ out-requires-9 c κs = search needs
 
 returns-9 : tie.Need-returns-9
 unfolding calledOf
-returns-9 c = c .out9 .ensures ∙ ap outOf (c .before .renew .ensures) ∙ sym (ap (λ (k : ℕ). outOf (calledOf (c .before .before .before .before .before .before .before .before .before .before .before .args .m) k (c .before .before .before .before .before .before .before .before .before .before .before .args .p) (c .before .before .before .before .before .before .before .before .before .before .before .args .q) (c .before .before .before .before .before .before .before .before .before .before .before .args .r) (c .before .before .before .before .before .before .before .before .before .before .before .args .s))) (c .before .before .if9 .taken))
+returns-9 c =
+    let s = c .before .before .before .before .before .before .before .before .before .before .before .before in
+    c .out9 .ensures
+    ∙ ap outOf (c .before .renew .ensures ∙ ap (λ (z : Settings). turnOf (s .args .m) (millcall.Board (call.Reset z))) (c .before .before .standard .ensures))
+    ∙ sym (ap (λ (k : ℕ). outOf (calledOf (s .args .m) k (s .args .p) (s .args .q) (s .args .r) (s .args .s))) (c .before .before .before .if9 .taken))
 
 unknown-requires : tie.Need-unknown-requires
 unknown-requires c κs = search needs
@@ -156,6 +168,7 @@ call-spec =
     tell-requires
     out-requires-8
     returns-8
+    standard-requires
     renew-requires
     out-requires-9
     returns-9

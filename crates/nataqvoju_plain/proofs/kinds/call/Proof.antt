@@ -1,5 +1,8 @@
 use Prim.Native.Nat.{ℕ}
 use mathlib.Core.Path.{sym, ap, _∙_}
+use Rattle.settings.specs.declared.Settings.{Settings}
+use Rattle.board.specs.declared.Call.the-variants as call
+use Rattle.board.specs.Step.{turnOf}
 use borrow.Author.Tests.{ne-eqb}
 use Rattle.nataqvoju_plain.specs.Kinds.{calledOf}
 use Rattle.nataqvoju_plain.specs.Lent.{outOf}
@@ -11,6 +14,7 @@ use Rattle.nataqvoju_plain.proofs.kinds.call.Lts as lts
 use Rattle.nataqvoju_plain.proofs.kinds.out.Reads as out-reads
 use Rattle.nataqvoju_plain.proofs.kinds.unknown.Reads as unknown-reads
 use Rattle.plain.proofs.step.Reads as step-reads
+use Rattle.settings.proofs.Settings.standard.Reads as standard-reads
 
 step-requires : tie.Need-step-requires
 step-requires c κs = search needs
@@ -78,6 +82,9 @@ returns-6 : tie.Need-returns-6
 unfolding calledOf
 returns-6 c = c .out6 .ensures ∙ ap outOf (c .before .step6 .ensures) ∙ sym (ap (λ (k : ℕ). outOf (calledOf (c .before .before .before .before .before .before .before .before .args .b) k (c .before .before .before .before .before .before .before .before .args .p) (c .before .before .before .before .before .before .before .before .args .q) (c .before .before .before .before .before .before .before .before .args .r) (c .before .before .before .before .before .before .before .before .args .s))) (c .before .before .if6 .taken))
 
+standard-requires : tie.Need-standard-requires
+standard-requires c κs = search needs
+
 step-requires-7 : tie.Need-step-requires-7
 step-requires-7 c κs = search needs
 
@@ -86,7 +93,11 @@ out-requires-7 c κs = search needs
 
 returns-7 : tie.Need-returns-7
 unfolding calledOf
-returns-7 c = c .out7 .ensures ∙ ap outOf (c .before .step7 .ensures) ∙ sym (ap (λ (k : ℕ). outOf (calledOf (c .before .before .before .before .before .before .before .before .before .args .b) k (c .before .before .before .before .before .before .before .before .before .args .p) (c .before .before .before .before .before .before .before .before .before .args .q) (c .before .before .before .before .before .before .before .before .before .args .r) (c .before .before .before .before .before .before .before .before .before .args .s))) (c .before .before .if7 .taken))
+returns-7 c =
+    let s = c .before .before .before .before .before .before .before .before .before .before in
+    c .out7 .ensures
+    ∙ ap outOf (c .before .step7 .ensures ∙ ap (λ (z : Settings). turnOf (s .args .b) (call.Reset z)) (c .before .before .standard .ensures))
+    ∙ sym (ap (λ (k : ℕ). outOf (calledOf (s .args .b) k (s .args .p) (s .args .q) (s .args .r) (s .args .s))) (c .before .before .before .if7 .taken))
 
 unknown-requires : tie.Need-unknown-requires
 unknown-requires c κs = search needs
@@ -122,6 +133,7 @@ call-spec =
     step-requires-6
     out-requires-6
     returns-6
+    standard-requires
     step-requires-7
     out-requires-7
     returns-7

@@ -11,7 +11,7 @@ use Rattle.plain.proofs.calls.served.Lts as lts
 use Rattle.plain.proofs.calls.delivering.Reads as delivering-reads
 use Rattle.plain.proofs.calls.ending.Reads as ending-reads
 use Rattle.plain.proofs.calls.reading.Reads as reading-reads
-use Rattle.plain.proofs.calls.reset.Reads as reset-reads
+use Rattle.plain.proofs.calls.resetting.Reads as resetting-reads
 use Rattle.plain.proofs.calls.wiring.Reads as wiring-reads
 use Rattle.plain.proofs.calls.writing.Reads as writing-reads
 use Rattle.plain.proofs.tick.advancing.Reads as advancing-reads
@@ -52,11 +52,11 @@ enum-told c = search needs
 delivering-requires : tie.Need-delivering-requires
 delivering-requires c κs = search needs
 
-enum-told-2 : tie.Need-enum-told-2
-enum-told-2 c = search needs
+enum-known-call-6 : tie.Need-enum-known-call-6
+enum-known-call-6 c = search needs
 
-reset-requires : tie.Need-reset-requires
-reset-requires c κs = search needs
+resetting-requires : tie.Need-resetting-requires
+resetting-requires c κs = search needs
 
 returns : tie.Need-returns
 unfolding servedOf
@@ -84,7 +84,7 @@ returns-6 c = c .delivering .ensures ∙ ap (servedOf (c .before .before .before
 
 returns-7 : tie.Need-returns-7
 unfolding servedOf
-returns-7 c = ap (λ (b : Board). turn b answer.Done) (c .reset .ensures) ∙ ap (servedOf (c .before .before .before .args .b)) (sym (c .before .enum-told2 .given .1))
+returns-7 c = c .resetting .ensures ∙ ap (servedOf (c .before .before .before .before .args .b)) (sym (c .before .before .call6 .given .1))
 
 pub served-spec : {M : Type 1} → statement M
 served-spec =
@@ -102,8 +102,8 @@ served-spec =
     advancing-requires
     enum-told
     delivering-requires
-    enum-told-2
-    reset-requires
+    enum-known-call-6
+    resetting-requires
     returns
     returns-2
     returns-3

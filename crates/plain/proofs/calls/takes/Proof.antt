@@ -43,8 +43,8 @@ enum-told c = search needs
 well-formed-requires-6 : tie.Need-well-formed-requires-6
 well-formed-requires-6 c κs = search needs
 
-enum-told-2 : tie.Need-enum-told-2
-enum-told-2 c = search needs
+enum-known-call-6 : tie.Need-enum-known-call-6
+enum-known-call-6 c = search needs
 
 returns : tie.Need-returns
 returns c = c .well-formed .ensures ∙ sym (ap (takes (c .before .before .before .before .args .b)) (c .before .before .call .given .1))
@@ -65,7 +65,7 @@ returns-6 : tie.Need-returns-6
 returns-6 c = c .well-formed6 .ensures ∙ sym (ap (takes (c .before .before .before .args .b)) (c .before .enum-told .given .1))
 
 returns-7 : tie.Need-returns-7
-returns-7 c = search needs
+returns-7 c = sym (ap (takes (c .before .before .before .args .b)) (c .before .call6 .given .1))
 
 pub takes-spec : {M : Type 1} → statement M
 takes-spec =
@@ -83,7 +83,7 @@ takes-spec =
     well-formed-requires-5
     enum-told
     well-formed-requires-6
-    enum-told-2
+    enum-known-call-6
     returns
     returns-2
     returns-3

@@ -30,7 +30,7 @@ returns : tie.Need-returns
 unfolding firedOf
 returns c =
     let a = c .before .before .args in
-    let size : length (a .t1 .timer) ≡ 3 = simp length-map at (c .before .before .good .0 .1 .1 .1 .1 .0 .1 .0 .1) in
+    let size : length (a .t1 .timer) ≡ 3 = simp length-map at (c .before .before .good .0 .1 .1 .1 .1 .1 .1 .1 .0 .1 .0 .1) in
     ap (withList (a .t1)) (ap (set (a .t1 .timer) (a .m)) (c .fired .ensures) ∙ put (a .t1 .timer) (a .m) (firing (at (a .t1) (a .m))) size (c .before .before .pre))
 
 pub fired-spec : {M : Type 1} → statement M

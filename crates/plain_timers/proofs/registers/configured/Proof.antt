@@ -18,20 +18,20 @@ reduced-requires-2 c κs = search needs
 routed-requires : tie.Need-routed-requires
 routed-requires c κs = search needs
 
-cast-t9 : tie.Need-cast-t9
-cast-t9 c = search needs
+cast-t10 : tie.Need-cast-t10
+cast-t10 c = search needs
 
-cast-t12 : tie.Need-cast-t12
-cast-t12 c = search needs
+cast-t13 : tie.Need-cast-t13
+cast-t13 c = search needs
 
-cast-t15 : tie.Need-cast-t15
-cast-t15 c = search needs
+cast-t16 : tie.Need-cast-t16
+cast-t16 c = search needs
 
 set-kept-requires : tie.Need-set-kept-requires
 set-kept-requires c κs = search needs
 
-cast-t19 : tie.Need-cast-t19
-cast-t19 c = search needs
+cast-t20 : tie.Need-cast-t20
+cast-t20 c = search needs
 
 status-kept-requires : tie.Need-status-kept-requires
 status-kept-requires c κs = search needs
@@ -47,10 +47,10 @@ configured-spec =
     reduced-requires
     reduced-requires-2
     routed-requires
-    cast-t9
-    cast-t12
-    cast-t15
+    cast-t10
+    cast-t13
+    cast-t16
     set-kept-requires
-    cast-t19
+    cast-t20
     status-kept-requires
     returns)

@@ -7,6 +7,7 @@ use Rattle.plain_timers.proofs.window.register.Tie as tie
 use Rattle.plain_timers.proofs.window.register.Reads as reads
 use Rattle.plain_timers.proofs.window.register.Lts as lts
 use Rattle.plain_timers.proofs.registers.configuration.Reads as configuration-reads
+use Rattle.plain_timers.proofs.window.capabilities.Reads as capabilities-reads
 use Rattle.plain_timers.proofs.window.status.Reads as status-reads
 
 element-copy-out-t0 : tie.Need-element-copy-out-t0
@@ -18,24 +19,36 @@ element-copy-out-t1 c = search needs
 element-copy-out-t2 : tie.Need-element-copy-out-t2
 element-copy-out-t2 c = search needs
 
+capabilities-requires : tie.Need-capabilities-requires
+capabilities-requires c κs = search needs
+
 cast-result : tie.Need-cast-result
 cast-result c = search needs
 
 status-requires : tie.Need-status-requires
 status-requires c κs = search needs
 
+element-copy-out-configuration : tie.Need-element-copy-out-configuration
+element-copy-out-configuration c = search needs
+
 configuration-requires : tie.Need-configuration-requires
 configuration-requires c κs = search needs
 
+element-copy-out-configuration-2 : tie.Need-element-copy-out-configuration-2
+element-copy-out-configuration-2 c = search needs
+
 configuration-requires-2 : tie.Need-configuration-requires-2
 configuration-requires-2 c κs = search needs
+
+element-copy-out-configuration-3 : tie.Need-element-copy-out-configuration-3
+element-copy-out-configuration-3 c = search needs
 
 configuration-requires-3 : tie.Need-configuration-requires-3
 configuration-requires-3 c κs = search needs
 
 returns : tie.Need-returns
 unfolding registerOf timerRegister
-returns c = rw (c .match .keys1)
+returns c = rw (c .before .match .keys1) (c .capabilities .ensures)
 
 returns-2 : tie.Need-returns-2
 unfolding registerOf timerRegister
@@ -51,7 +64,7 @@ returns-4 c = rw (c .match .keys4)
 
 returns-5 : tie.Need-returns-5
 unfolding registerOf timerRegister
-returns-5 c = rw (c .before .match .keys5) (c .configuration .ensures)
+returns-5 c = rw (c .before .before .match .keys5) (c .configuration .ensures)
 
 returns-6 : tie.Need-returns-6
 unfolding registerOf timerRegister
@@ -59,7 +72,7 @@ returns-6 c = rw (c .match .keys6)
 
 returns-7 : tie.Need-returns-7
 unfolding registerOf timerRegister
-returns-7 c = rw (c .before .match .keys7) (c .configuration2 .ensures)
+returns-7 c = rw (c .before .before .match .keys7) (c .configuration2 .ensures)
 
 returns-8 : tie.Need-returns-8
 unfolding registerOf timerRegister
@@ -67,7 +80,7 @@ returns-8 c = rw (c .match .keys8)
 
 returns-9 : tie.Need-returns-9
 unfolding registerOf timerRegister
-returns-9 c = rw (c .before .match .keys9) (c .configuration3 .ensures)
+returns-9 c = rw (c .before .before .match .keys9) (c .configuration3 .ensures)
 
 returns-10 : tie.Need-returns-10
 unfolding registerOf timerRegister
@@ -83,10 +96,14 @@ register-spec =
     element-copy-out-t0
     element-copy-out-t1
     element-copy-out-t2
+    capabilities-requires
     cast-result
     status-requires
+    element-copy-out-configuration
     configuration-requires
+    element-copy-out-configuration-2
     configuration-requires-2
+    element-copy-out-configuration-3
     configuration-requires-3
     returns
     returns-2

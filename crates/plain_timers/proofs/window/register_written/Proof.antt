@@ -31,6 +31,9 @@ statuses-cleared-requires c κs = search needs
 counter-written-requires : tie.Need-counter-written-requires
 counter-written-requires c κs = search needs
 
+element-copy-out-configured : tie.Need-element-copy-out-configured
+element-copy-out-configured c = search needs
+
 configured-requires : tie.Need-configured-requires
 configured-requires c κs = search needs
 
@@ -43,6 +46,9 @@ compared-requires c κs = search needs
 with-timer-requires-2 : tie.Need-with-timer-requires-2
 with-timer-requires-2 c κs = search needs
 
+element-copy-out-configured-2 : tie.Need-element-copy-out-configured-2
+element-copy-out-configured-2 c = search needs
+
 configured-requires-2 : tie.Need-configured-requires-2
 configured-requires-2 c κs = search needs
 
@@ -54,6 +60,9 @@ compared-requires-2 c κs = search needs
 
 with-timer-requires-4 : tie.Need-with-timer-requires-4
 with-timer-requires-4 c κs = search needs
+
+element-copy-out-configured-3 : tie.Need-element-copy-out-configured-3
+element-copy-out-configured-3 c = search needs
 
 configured-requires-3 : tie.Need-configured-requires-3
 configured-requires-3 c κs = search needs
@@ -81,7 +90,7 @@ returns-3 c = rw (c .before .match .keys3) (c .counter-written .ensures)
 
 returns-4 : tie.Need-returns-4
 unfolding writtenOf timerWritten
-returns-4 c = rw (c .before .before .match .keys4) cc
+returns-4 c = rw (c .before .before .before .match .keys4) cc
 
 returns-5 : tie.Need-returns-5
 unfolding writtenOf timerWritten
@@ -89,7 +98,7 @@ returns-5 c = rw (c .before .before .match .keys5) cc
 
 returns-6 : tie.Need-returns-6
 unfolding writtenOf timerWritten
-returns-6 c = rw (c .before .before .match .keys6) cc
+returns-6 c = rw (c .before .before .before .match .keys6) cc
 
 returns-7 : tie.Need-returns-7
 unfolding writtenOf timerWritten
@@ -97,7 +106,7 @@ returns-7 c = rw (c .before .before .match .keys7) cc
 
 returns-8 : tie.Need-returns-8
 unfolding writtenOf timerWritten
-returns-8 c = rw (c .before .before .match .keys8) cc
+returns-8 c = rw (c .before .before .before .match .keys8) cc
 
 returns-9 : tie.Need-returns-9
 unfolding writtenOf timerWritten
@@ -116,14 +125,17 @@ register-written-spec =
     enabled-written-requires
     statuses-cleared-requires
     counter-written-requires
+    element-copy-out-configured
     configured-requires
     with-timer-requires
     compared-requires
     with-timer-requires-2
+    element-copy-out-configured-2
     configured-requires-2
     with-timer-requires-3
     compared-requires-2
     with-timer-requires-4
+    element-copy-out-configured-3
     configured-requires-3
     with-timer-requires-5
     compared-requires-3

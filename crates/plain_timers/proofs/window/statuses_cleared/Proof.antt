@@ -27,11 +27,13 @@ cleared-requires-3 : tie.Need-cleared-requires-3
 cleared-requires-3 c κs = search needs
 
 returns : tie.Need-returns
-returns c = let c1 = c .before in
+returns c =
+    let c2 = c .before in
+    let c1 = c2 .before in
     let c0 = c1 .before in
     let a = c0 .before .before .before .before .args in
     cleared-code (a .t1) (a .value) _ _ _ _ _ _ (low-bit (a .value)) refl refl
-    (c0 .cleared .ensures) (c1 .cleared2 .ensures) (c .cleared3 .ensures)
+    (c0 .cleared .ensures) (c1 .cleared2 .ensures) (c2 .cleared3 .ensures)
 
 pub statuses-cleared-spec : {M : Type 1} → statement M
 statuses-cleared-spec =

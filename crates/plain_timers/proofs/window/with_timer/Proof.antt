@@ -16,7 +16,7 @@ element-set-from-t c = search needs
 
 returns : tie.Need-returns
 returns c = let a = c .args in
-    let size : length (a .s .timer) ≡ 3 = simp length-map at (c .good .0 .1 .1 .1 .1 .0 .1 .0 .1) in
+    let size : length (a .s .timer) ≡ 3 = simp length-map at (c .good .0 .1 .1 .1 .1 .1 .1 .1 .0 .1 .0 .1) in
     ap (withList (a .s)) (put (a .s .timer) (a .m) (a .t) size (c .pre))
 
 pub with-timer-spec : {M : Type 1} → statement M

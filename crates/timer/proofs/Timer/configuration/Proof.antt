@@ -31,7 +31,8 @@ returns : tie.Need-returns
 returns c = let a = c .before in
     let s = a .before .before .before .before .before in
     let k : s .args .self .route < 2 ^ 16 = omega arith in
-    configuration-code (s .args .self) (a .before .placed4 .result) (a .placed5 .result) (a .before .before .before .before .placed .result) (a .before .before .before .placed2 .result) (a .before .before .placed3 .result) k
+    let m : s .args .mask < 2 ^ 32 = omega arith in
+    configuration-code (s .args .mask) (s .args .self) (a .before .placed4 .result) (a .placed5 .result) (a .before .before .before .before .placed .result) (a .before .before .before .placed2 .result) (a .before .before .placed3 .result) m k
     (placed-is 8 (s .args .self .narrow) (lit< tt) (a .before .placed4 .ensures)) (placed-is 6 (s .args .self .«set_comparator») (lit< tt) (a .placed5 .ensures)) (placed-is 3 (s .args .self .periodic) (lit< tt) (a .before .before .before .before .placed .ensures)) (placed-is 2 (s .args .self .interrupt) (lit< tt) (a .before .before .before .placed2 .ensures)) (placed-is 1 (s .args .self .«level_type») (lit< tt) (a .before .before .placed3 .ensures))
 
 pub configuration-spec : {M : Type 1} → statement M

@@ -1,5 +1,6 @@
 use mathlib.Core.Path.{_≡_, refl, sym, _∙_}
 use lib.ListN.{length, length-map}
+use Rattle.timer.specs.State.{blank}
 use Rattle.timers.proofs.Three.{beyond}
 use borrow.Author.Needs.{needs}
 use Rattle.timers.proofs.Timers.at.Statement.{statement}
@@ -13,8 +14,8 @@ blank-requires c κs = search needs
 
 returns : tie.Need-returns
 returns c = let s = c .before .before in
-    let l : length (s .args .self .timer) ≡ 3 = simp length-map at (s .good .0 .1 .1 .1 .1 .0 .1 .0 .1) in
-    c .blank .ensures ∙ sym (beyond (s .args .self .timer) (s .args .m) l (c .before .if1 .taken))
+    let l : length (s .args .self .timer) ≡ 3 = simp length-map at (s .good .0 .1 .1 .1 .1 .1 .1 .1 .0 .1 .0 .1) in
+    c .blank .ensures ∙ sym (beyond (s .args .self .timer) blank (s .args .m) l (c .before .if1 .taken))
 
 mul-result : tie.Need-mul-result
 mul-result c = search needs

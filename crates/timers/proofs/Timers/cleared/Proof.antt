@@ -35,13 +35,15 @@ cleared-by-requires-3 : tie.Need-cleared-by-requires-3
 cleared-by-requires-3 c κs = search needs
 
 returns : tie.Need-returns
-returns c = let b2 = c .before in
+returns c =
+    let c2 = c .before in
+    let b2 = c2 .before in
     let c1 = b2 .before in
     let b1 = c1 .before in
     let c0 = b1 .before in
     let b0 = c0 .before in
     let a = b0 .before .before .before .before .before .args in
-    cleared-code (a .self) (a .value) _ _ _ _ _ _ (b0 .bit .ensures) (b1 .bit2 .ensures) (b2 .bit3 .ensures) (c0 .cleared-by .ensures) (c1 .cleared-by2 .ensures) (c .cleared-by3 .ensures)
+    cleared-code (a .self) (a .value) _ _ _ _ _ _ (b0 .bit .ensures) (b1 .bit2 .ensures) (b2 .bit3 .ensures) (c0 .cleared-by .ensures) (c1 .cleared-by2 .ensures) (c2 .cleared-by3 .ensures)
 
 pub cleared-spec : {M : Type 1} → statement M
 cleared-spec =

@@ -30,10 +30,11 @@ put-half-requires-3 c κs = search needs
 
 returns : tie.Need-returns
 returns c =
-    let c1 = c .before in
+    let c2 = c .before in
+    let c1 = c2 .before in
     let c0 = c1 .before in
     let a = c0 .before .before .before .before .before .args in
-    half-code (a .self) (a .offset) (λ t. halfComparedOf t (a .half) (a .value)) _ _ _ (c0 .put-half .ensures) (c1 .put-half2 .ensures) (c .put-half3 .ensures)
+    half-code (a .self) (a .offset) (λ t. halfComparedOf t (a .half) (a .value)) _ _ _ (c0 .put-half .ensures) (c1 .put-half2 .ensures) (c2 .put-half3 .ensures)
 
 pub half-compared-spec : {M : Type 1} → statement M
 half-compared-spec =

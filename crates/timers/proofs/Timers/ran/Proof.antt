@@ -37,16 +37,18 @@ wrapping-add-u64-requires : tie.Need-wrapping-add-u64-requires
 wrapping-add-u64-requires c κs = search needs
 
 returns-2 : tie.Need-returns-2
-returns-2 c = let r3 = c .before .before .before .before in
+returns-2 c =
+    let w = c .before in
+    let r3 = w .before .before .before .before in
     let r2 = r3 .before in
     let r1 = r2 .before in
     let e = r1 .before .before .before .before .before in
     let s = e .before .before in
     let k : s .args .self .counter < 2 ^ 64 = omega arith in
-    let l : length (s .args .self .timer) ≡ 3 = simp length-map at (s .good .0 .1 .1 .1 .1 .0 .1 .0 .1) in
+    let l : length (s .args .self .timer) ≡ 3 = simp length-map at (s .good .0 .1 .1 .1 .1 .1 .1 .1 .0 .1 .0 .1) in
     ran-on (s .args .self) (s .args .ticks) (eq-eqb _ _ (e .if1 .left)) k l
-    (c .wrapping-add-u64 .result) (r1 .ran .result) (r2 .ran2 .result) (r3 .ran3 .result)
-    (c .wrapping-add-u64 .ensures) (r1 .ran .ensures) (r2 .ran2 .ensures) (r3 .ran3 .ensures)
+    (w .wrapping-add-u64 .result) (r1 .ran .result) (r2 .ran2 .result) (r3 .ran3 .result)
+    (w .wrapping-add-u64 .ensures) (r1 .ran .ensures) (r2 .ran2 .ensures) (r3 .ran3 .ensures)
 
 pub ran-spec : {M : Type 1} → statement M
 ran-spec =
