@@ -3,9 +3,6 @@ use mathlib.Core.Path.{◌≡◌, refl, sym, subst}
 use mathlib.Core.Bool.{true}
 use mathlib.Core.List.{[], ◌∷◌}
 use lib.Dec.{T}
-use denote.Enum.Declared.{tag_of}
-use types.Run.{OneOf, miss}
-use Rattle.answers.specs.contracts.Answer as A
 use Rattle.answers.specs.declared.Refusal.{Refusal}
 use Rattle.answers.specs.declared.Answer.{Answer}
 use Rattle.answers.specs.declared.Answer.TheVariants as answer
@@ -13,7 +10,7 @@ use Rattle.answers.specs.Numbers.{is_done, if_refused}
 
 -- what a match learns in the arm of all the others
 abbrev pub NotRefused : Answer → Type 0
-NotRefused a = OneOf (0 ∷ 1 ∷ 2 ∷ 3 ∷ 4 ∷ []) (tag_of A.the_type a)
+NotRefused a = (r : Refusal) → a ≡ answer.Refused r → ⊥
 
 pub is-done : (a : Answer) → NotRefused a → is_done a ≡ true
 is-done answer.Done k = refl
@@ -21,7 +18,7 @@ is-done (answer.Value v) k = refl
 is-done (answer.Fired x y z) k = refl
 is-done (answer.Interrupt p v d l) k = refl
 is-done answer.Nothing k = refl
-is-done (answer.Refused r) k = absurd (miss (0 ∷ 1 ∷ 2 ∷ 3 ∷ 4 ∷ []) 5 tt k)
+is-done (answer.Refused r) k = absurd (k r refl)
 
 module _ {A : Type 0} (f : Refusal → A) (x : A) where
   pub if-done : (a : Answer) → is_done a ≡ true → if_refused f x a ≡ x

@@ -1,9 +1,11 @@
 // Everything that a call can answer, and the paper's number and values of each answer ("Numbers a call can answer").
+#![tactic(auto)]
+
 ghost use Rattle.std.specs.Prelude.{◌≡◌};
 ghost use Rattle.answers.specs.Numbers.{number_of, bare, numbers_of, is_done};
 
 // Why a call is refused: a variant for each reason that the table names.
-#[derive(Drop)]
+#[derive(Clone, Copy)]
 pub enum Refusal {
     // 1: the window doesn't exist
     Window,
@@ -37,7 +39,7 @@ pub enum Refusal {
     NotEdge,
 }
 
-#[derive(Drop)]
+#[derive(Clone, Copy)]
 pub enum Answer {
     Done,
     // what a done read gives
@@ -58,7 +60,7 @@ pub enum Answer {
 
 // An answer as numbers alone, for those who link from C. No byte of it is padding.
 #[repr(C)]
-#[derive(Drop)]
+#[derive(Clone, Copy)]
 pub struct Numbers {
     pub value: u64,
     pub number: u32,

@@ -12,7 +12,7 @@ use Rattle.pins.specs.Pins.{all_from, pins}
 use Rattle.pins.proofs.Bools.{clash, and_left, and_right, and_both, not-both, not-both-of}
 use Rattle.pins.proofs.Every.{every-at, every_of}
 use Rattle.pins.proofs.Fill.{get_or-tab}
-use Rattle.pins.proofs.Store.{get_d_set}
+use Rattle.pins.proofs.Store.{get_or_set}
 use Rattle.entries.specs.declared.Entries.{Entries}
 use Rattle.entries.specs.Word.{vector_of, remote_of, level_of, masked_of, with_remote, without_remote, written, word_ok}
 use Rattle.entries.specs.Pin.{asserted, makes_edge, held_after, ended_word, pin_ok}
@@ -250,7 +250,7 @@ module _ (e : Entries) (ok : entries_ok e ≡ true) where
     unfolding entries_ok
     one_ok n x h l g =
         every_of (pin_ok_at (at_pin n x h))
-        (λ i k. rw (get_d_set e.low n i x 0 (rw z.low l), get_d_set e.held n i h 0 (rw z.held l))
+        (λ i k. rw (get_or_set e.low n i x 0 (rw z.low l), get_or_set e.held n i h 0 (rw z.held l))
         (pick-ok (eqb i n) (low_at e i) x (level_at e i) (held_at e i) h (pins-ok i k) (λ t. rw (eqb-true i n t) (pin-ok x (level_at e n) h g))))
 
     pub low-written-ok : (n v : ℕ) → n < 24 → entries_ok (low_written e n v) ≡ true

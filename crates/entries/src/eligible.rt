@@ -10,7 +10,7 @@ use crate::{Entries, Low};
 
 // Bits 16:1 of a low word: all of the word that decides whether its pin is eligible. With half the width twice as many
 // fit the processor's vectors; docs/BENCHMARKS.md has what other forms cost. Arrays hold plain u16, not `Key`.
-#[derive(Drop)]
+#[derive(Clone, Copy)]
 struct Key(u16);
 
 // A level that is neither 0 nor 1 differs from either polarity, as 2 does.

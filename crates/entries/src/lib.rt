@@ -1,6 +1,8 @@
 // What every controller of this family shares: 24 redirection entries, their pins' wires and held edges.
 // An array is taken out of the entries before one of its elements is read or stored: a struct with an element of it
 // indexed is kept in memory and copied whole, one whose parts are only moved is not.
+#![tactic(auto)]
+
 mod decision;
 mod eligible;
 mod pin;
@@ -13,12 +15,12 @@ mod word;
 use answers::Answer;
 
 // The low word of an entry, taken apart by bit position.
-#[derive(Drop)]
+#[derive(Clone, Copy)]
 pub struct Low(pub u32);
 
 // By value: low words, destinations, wire levels and held edges (0 or 1).
 #[repr(C)]
-#[derive(Drop)]
+#[derive(Clone, Copy)]
 pub struct Entries {
     pub low: [u32; 24],
     pub destination: [u8; 24],
@@ -27,7 +29,7 @@ pub struct Entries {
 }
 
 // What a delivery or a low-word write leaves at one pin, its low word and its held edge, and what it answers.
-#[derive(Drop)]
+#[derive(Clone, Copy)]
 pub struct EntryDecision {
     pub pin: usize,
     pub low: u32,
@@ -36,7 +38,7 @@ pub struct EntryDecision {
 }
 
 // What a change of a wire leaves at its pin.
-#[derive(Drop)]
+#[derive(Clone, Copy)]
 pub struct WireDecision {
     pub pin: usize,
     pub level: u8,

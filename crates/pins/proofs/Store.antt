@@ -11,8 +11,8 @@ use borrow.Author.Tests.{eq-eqb, ne_eqb}
 use Rattle.pins.specs.Pins.{pins}
 use Rattle.pins.proofs.Fill.{get_or-tab, length-tab}
 
-pub get_d_set : {A : Type 0} (l : List A) (i j : ℕ) (x d : A) → i < length l → get_or (set l i x) j d ≡ cond (eqb j i) x (get_or l j d)
-get_d_set l i j x d h = go (ℕ_discrete j i)
+pub get_or_set : {A : Type 0} (l : List A) (i j : ℕ) (x d : A) → i < length l → get_or (set l i x) j d ≡ cond (eqb j i) x (get_or l j d)
+get_or_set l i j x d h = go (ℕ_discrete j i)
   where
     go : Dec (j ≡ i) → get_or (set l i x) j d ≡ cond (eqb j i) x (get_or l j d)
     go (yes e) = rw (eq-eqb j i e, e) (get_or-set_same l i x d h)

@@ -1,5 +1,7 @@
 // The settings of a mill: vendor, tick period, a route mask for each timer, controller id; the range of each number;
 // and the record that stores them. They know neither the timer block nor the controller.
+#![tactic(auto)]
+
 mod record;
 
 ghost use Rattle.std.specs.Prelude.{◌≡◌};
@@ -7,7 +9,7 @@ ghost use Rattle.settings.specs.Settings.{standard, vendor_ok, period_ok, mask_o
 
 use answers::Answer;
 
-#[derive(Drop)]
+#[derive(Clone, Copy)]
 pub struct Settings {
     pub vendor: u16,
     // of a tick, in femtoseconds
@@ -21,7 +23,7 @@ pub struct Settings {
 }
 
 // What the reader of a record gives: its settings and done, or document 01's and the refusal.
-#[derive(Drop)]
+#[derive(Clone, Copy)]
 pub struct Reading {
     pub settings: Settings,
     pub answer: Answer,

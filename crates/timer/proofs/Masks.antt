@@ -1,11 +1,11 @@
 -- A route mask and its lowest pin: a mask in range has one, and the trailing zeros of its number tell it.
-use Rattle.std.proofs.Common.{◌≡◌, ℕ, zero, suc, ◌+◌, ◌*◌, ◌/◌, ◌%◌, ◌^◌, ◌<◌, ◌≤◌, Bool, true, false, eqb, sym, refl, ap, ◌∙◌, ap₂, lt_of_lt_of_le, add-suc, mod-eq_of_lt, suc-add, zero-add, arith, lit<, pow_mono, shr-shr}
+use Rattle.std.proofs.Common.{◌≡◌, ℕ, zero, suc, ◌+◌, ◌*◌, ◌/◌, ◌%◌, ◌^◌, ◌<◌, ◌≤◌, Bool, true, false, eqb, sym, refl, ap, ◌∙◌, lt_of_lt_of_le, zero-add, arith, lit<, pow_mono, shr-shr}
 use native.Mathlib.Nat.{div-eq_of_lt, mod-one}
-use native.Mathlib.Decide.{ℕ_discrete, dec_lt}
+use native.Mathlib.Decide.{dec_lt}
 use lib.Count.{count_trailing_zeros}
 use lib.Pow.{mod-pow-add}
 use mir.Val.{bool_byte}
-use Rattle.pins.specs.Pins.{first, first_from, bits_from}
+use Rattle.pins.specs.Pins.{first, bits_from}
 use Rattle.pins.proofs.Bools.{clash}
 use Rattle.pins.proofs.Digits.{zeros-first}
 use Rattle.pins.proofs.First.{first-le-24, first_found, first-none}

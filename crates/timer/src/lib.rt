@@ -1,4 +1,6 @@
 // One timer of the block, by value: its registers, its firing, and many ticks of it at once.
+#![tactic(auto)]
+
 mod in_halves;
 mod mask;
 mod registers;
@@ -15,7 +17,7 @@ use settings::Settings;
 
 // Flags are 0 or 1: any other value is a state that is not well formed. No byte of it is padding.
 #[repr(C)]
-#[derive(Drop)]
+#[derive(Clone, Copy)]
 pub struct Timer {
     pub comparator: u64,
     pub period: u64,
@@ -31,14 +33,14 @@ pub struct Timer {
 }
 
 // Which half of a register a 4-byte access names: bits 31:0 or bits 63:32.
-#[derive(Drop)]
+#[derive(Clone, Copy)]
 pub enum Half {
     Low,
     High,
 }
 
 // A timer after many ticks: itself, how often it fired, and at which tick first, from 1 (0: not at all).
-#[derive(Drop)]
+#[derive(Clone, Copy)]
 pub struct Run {
     pub timer: Timer,
     pub fired: u32,

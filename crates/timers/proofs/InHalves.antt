@@ -10,7 +10,7 @@ use Rattle.timer.specs.Tick.{driving}
 use Rattle.timer.proofs.Wire.{set-driving}
 use Rattle.timer.proofs.Halves.{other, replaced-both}
 use Rattle.timer.proofs.Compared.{half-once, halves_set, halves-whole-set, narrow-low, narrow_high, narrow-low-first, narrow-high-first}
-use Rattle.timer.proofs.Compared.{in_halves as timerInHalves}
+use Rattle.timer.proofs.Compared.{in_halves as timer_in_halves}
 use Rattle.timer.proofs.ReadBack.{set-configuration}
 use Rattle.timers.specs.declared.Timers.{Timers}
 use Rattle.timers.specs.State.{at, mask_at, is_enabled, with_counter, with_list, with_timer}
@@ -20,7 +20,7 @@ use Rattle.timers.specs.Tick.{drives_of}
 use Rattle.timers.proofs.Settings.{kept-mask, half-written-kept}
 use Rattle.timers.proofs.Three.{three-same, at_with, at_same}
 use Rattle.timers.proofs.Access.{read-counter, write-counter}
-use Rattle.timers.proofs.Places.{counter, comparator, configuration-read, comparator-read, comparator-write}
+use Rattle.timers.proofs.Places.{configuration-read, comparator-read, comparator-write}
 use Rattle.timers.proofs.Wires.{drives-alike}
 use Rattle.timers.proofs.Halves.{half-replaces, half-compares}
 
@@ -79,7 +79,7 @@ module _ (s : Timers) (h : Half) (v : ℕ) where
         ∙ ap (λ (x : Timer). with_timer (with_timer s n (f t)) n (g x)) (at_same s n (f t) l)
         ∙ with-with s n (f t) (g (f t))
 
-    by-timer : in_halves s h o v ≡ with_timer s n (timerInHalves t h v)
+    by-timer : in_halves s h o v ≡ with_timer s n (timer_in_halves t h v)
     by-timer =
         half-compares (half_written s h o (half_of h v)) (other h) (half_of (other h) v) n l
         ∙ twice (λ x. half_compared_of x h (half_of h v)) (λ x. half_compared_of x (other h) (half_of (other h) v)) _ (half-compares s h (half_of h v) n l)

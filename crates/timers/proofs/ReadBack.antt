@@ -14,7 +14,7 @@ use Rattle.timers.specs.Registers.{status_of, register_of, cleared_by, written_o
 use Rattle.timers.proofs.Settings.{kept-mask, written-kept}
 use Rattle.timers.proofs.Three.{at_with, at_same}
 use Rattle.timers.proofs.Access.{read-enabled, read-status, read-counter, write-enabled, write-status, write-counter}
-use Rattle.timers.proofs.Places.{status, comparator, configuration-read, comparator-read, configuration-write, comparator-write}
+use Rattle.timers.proofs.Places.{configuration-read, comparator-read, configuration-write, comparator-write}
 
 module _ (s : Timers) (v : ℕ) where
   -- "0x010: bit 0 enable. Other bits read 0."

@@ -106,8 +106,8 @@ impl Timers {
 
     // A write that is allowed. `written` stands here once for both widths, so that it stays a part of the call.
     pub(crate) fn stored(self, width: u64, offset: u64, value: u64) -> Timers
-        requires offset_value { aligned width offset ≡ true }
-        requires value_value { fits width value ≡ true }
+        requires is_aligned { aligned width offset ≡ true }
+        requires is_fitting { fits width value ≡ true }
         ensures { result ≡ stored_of self width offset value }
     {
         let half = Timers::half_at(offset);

@@ -1,4 +1,6 @@
 // The timer block: its settings, three timers and their counter, by value.
+#![tactic(auto)]
+
 mod in_halves;
 mod tick;
 mod window;
@@ -19,7 +21,7 @@ pub use timer::Timer;
 // `enabled` is 0 or 1, the vendor has 16 bits: any other value is a state that is not well formed. No byte of it is
 // padding.
 #[repr(C)]
-#[derive(Drop)]
+#[derive(Clone, Copy)]
 pub struct Timers {
     pub counter: u64,
     // of a tick, in femtoseconds
@@ -32,14 +34,14 @@ pub struct Timers {
 }
 
 // What a call gives: the next state and the answer.
-#[derive(Drop)]
+#[derive(Clone, Copy)]
 pub struct Turn {
     pub timers: Timers,
     pub answer: Answer,
 }
 
 // The block after many ticks, how often each timer fired, and at which tick first, from 1 (0: not at all).
-#[derive(Drop)]
+#[derive(Clone, Copy)]
 pub struct Ran {
     pub timers: Timers,
     pub fired: [u32; 3],

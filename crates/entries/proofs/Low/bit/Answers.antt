@@ -1,0 +1,10 @@
+use Prim.Native.Nat.{◌/◌, ◌^◌}
+use native.Mathlib.Omega.{arith}
+use lib.Bits.{and_mask}
+use Rattle.entries.proofs.Low.bit.Goals as goal
+
+pub overflow_cast-result : goal.overflow_cast-result
+overflow_cast-result c = omega (arith, and_mask (c.args.self.0 / 2 ^ c.args.at) 1)
+
+pub returns : goal.returns
+returns c = and_mask (c.args.self.0 / 2 ^ c.args.at) 1

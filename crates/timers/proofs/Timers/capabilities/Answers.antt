@@ -1,0 +1,8 @@
+use Rattle.std.proofs.Common.{◌^◌, ◌<◌, arith}
+use Rattle.timers.proofs.Access.{capabilities-code}
+use Rattle.timers.proofs.Timers.capabilities.Goals as goal
+
+pub returns : goal.returns
+returns c =
+    let p : c.args.self.tick_period < 2 ^ 32 = omega arith in
+    capabilities-code c.args.self p
