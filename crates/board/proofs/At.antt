@@ -20,7 +20,7 @@ use Rattle.controller.specs.Inner.{rewired_at, struck_of}
 use Rattle.timers.specs.declared.Timers.{Timers}
 use Rattle.timers.specs.declared.Ran.{Ran}
 use Rattle.timers.specs.State.{three, is_enabled}
-use Rattle.timers.specs.Tick.{matches_of, pulses_of, route_of, ticks as timersTicks, fires_in as timersFiresIn}
+use Rattle.timers.specs.Tick.{matches_of, pulses_of, route_of, ticks as timers_ticks, fires_in as timers_fires_in}
 use Rattle.timers.specs.Inner.{raises_of, ran_of, first}
 use Rattle.timer.specs.State.{flag}
 use Rattle.timers.proofs.Each.{turns-enabled}
@@ -76,16 +76,16 @@ module _ (b : Board) (z : Formed b) (n : ℕ) (f : List ℕ) (is : f ≡ three (
     formed-y : Formed y
     formed-y = ticks-formed b z t
 
-    timers-y : y.timers ≡ timersTicks t b.timers
+    timers-y : y.timers ≡ timers_ticks t b.timers
     timers-y = ticks-timers b z t
 
     -- a timer whose first firing is at the tick fires in it; one that fires otherwise is still
-    fires : (m : ℕ) → m < 3 → get_or f m 0 ≡ suc t → timersFiresIn y.timers m ≡ true
-    fires m l q = ap (λ (x : Timers). timersFiresIn x m) timers-y ∙ first-here m t n b.timers h (sym (f-at m l) ∙ q)
+    fires : (m : ℕ) → m < 3 → get_or f m 0 ≡ suc t → timers_fires_in y.timers m ≡ true
+    fires m l q = ap (λ (x : Timers). timers_fires_in x m) timers-y ∙ first-here m t n b.timers h (sym (f-at m l) ∙ q)
 
-    stills : (m : ℕ) → m < 3 → timersFiresIn y.timers m ≡ true → (get_or f m 0 ≡ suc t → ⊥) → Still m y
+    stills : (m : ℕ) → m < 3 → timers_fires_in y.timers m ≡ true → (get_or f m 0 ≡ suc t → ⊥) → Still m y
     stills m l g q =
-        still_after b z m l t (fired-before m t n b.timers h (ap (λ (x : Timers). timersFiresIn x m) (sym timers-y) ∙ g) (λ r. q (f-at m l ∙ r)))
+        still_after b z m l t (fired-before m t n b.timers h (ap (λ (x : Timers). timers_fires_in x m) (sym timers-y) ∙ g) (λ r. q (f-at m l ∙ r)))
 
     module _ (on : is_enabled y.timers ≡ true) where
       -- the pins after the turns below m
@@ -102,7 +102,7 @@ module _ (b : Board) (z : Formed b) (n : ℕ) (f : List ℕ) (is : f ≡ three (
           zx : Formed x
           zx = turns-formed y formed-y m (omega arith)
 
-          matches : matches_of x.timers m ≡ timersFiresIn y.timers m
+          matches : matches_of x.timers m ≡ timers_fires_in y.timers m
           matches = turns-match y formed-y m l ∙ sym (fires-on y.timers m l on)
 
           on-x : is_enabled x.timers ≡ true
@@ -171,7 +171,7 @@ answered :
 unfolding advancing_of
 answered b z n c x ec ex = λ i. turn (whole i) (answer.Fired (count 0 (omega arith) i) (count 1 (omega arith) i) (count 2 (omega arith) i))
   where
-    state : x.timers ≡ timersTicks n b.timers
+    state : x.timers ≡ timers_ticks n b.timers
     state = ap (λ (y : Ran). y.timers) ex ∙ ran-timers b.timers n
 
     whole : board c x.timers b.outside ≡ ticks n b

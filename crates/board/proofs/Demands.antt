@@ -20,15 +20,15 @@ use Rattle.entries.specs.Table.{eligible_at, given}
 use Rattle.entries.proofs.Delivery.{Lowest}
 use Rattle.controller.specs.declared.Controller.{Controller}
 use Rattle.controller.specs.declared.Turn.{Turn as ControllerTurn}
-use Rattle.controller.specs.Window.{reading_of as controllerReading, writing_of as controllerWriting}
+use Rattle.controller.specs.Window.{reading_of as controller_reading, writing_of as controller_writing}
 use Rattle.controller.specs.Steps.{after_end, delivering_of, deliver_of}
 use Rattle.controller.proofs.Demands.{reading-decided, writing-decided, delivering-decided, deliver-served, delivers-only-if, delivers-if, none-only-if, none-if}
 use Rattle.timer.specs.declared.Timer.{Timer}
 use Rattle.timers.specs.declared.Timers.{Timers}
 use Rattle.timers.specs.State.{at}
-use Rattle.timers.specs.Tick.{ticks as timersTicks}
+use Rattle.timers.specs.Tick.{ticks as timers_ticks}
 use Rattle.timers.specs.declared.Turn.{Turn as TimersTurn}
-use Rattle.timers.specs.Call.{reading_of as timersReading, writing_of as timersWriting}
+use Rattle.timers.specs.Call.{reading_of as timers_reading, writing_of as timers_writing}
 use Rattle.timers.proofs.Decided.{reading-decided as timers-reading-decided, writing-decided as timers-writing-decided}
 use Rattle.timers.proofs.Portions.{total}
 use Rattle.timers.proofs.Runs.{SameBut, ticks-alike, firings-alike}
@@ -37,7 +37,7 @@ use Rattle.board.specs.declared.Board.{Board}
 use Rattle.board.specs.declared.Call.{Call}
 use Rattle.board.specs.declared.Call.TheVariants as call
 use Rattle.board.specs.declared.Turn.{Turn}
-use Rattle.board.specs.State.{board, reset_to, with_controller, turn, refused}
+use Rattle.board.specs.State.{reset_to, with_controller, turn, refused}
 use Rattle.board.specs.Wires.{joined}
 use Rattle.board.specs.Formed.{well_formed}
 use Rattle.board.specs.Tick.{ticks, firings}
@@ -107,13 +107,13 @@ module _ (b : Board) (s : Sized b) where
   decided (call.Read n w o) =
       first-test _ _
       (λ z. in_window_lem b n _ _ _ _
-      (of-controller b _ (controllerReading b.controller w o) (reading-decided b.controller w o))
-      (of-timers-read b z _ (timersReading b.timers w o) (timers-reading-decided b.timers w o)))
+      (of-controller b _ (controller_reading b.controller w o) (reading-decided b.controller w o))
+      (of-timers-read b z _ (timers_reading b.timers w o) (timers-reading-decided b.timers w o)))
   decided (call.Write n w o v) =
       first-test _ _
       (λ z. in_window_lem b n _ _ _ _
-      (of-controller b _ (controllerWriting b.controller w o v) (writing-decided b.controller w o v))
-      (of-timers b z _ (timersWriting b.timers w o v) (timers-writing-decided b.timers w o v)))
+      (of-controller b _ (controller_writing b.controller w o v) (writing-decided b.controller w o v))
+      (of-timers b z _ (timers_writing b.timers w o v) (timers-writing-decided b.timers w o v)))
   decided (call.Wire p l) =
       first-test _ _
       (λ z. then b 3 _ refusal.Pin _ (ltb p 24) refl
@@ -250,13 +250,13 @@ pub record Alike (m : ℕ) (r r' : Turn) : Type 0 where
   pub firings : (i : ℕ) → i < 3 → (i ≡ m → ⊥) → fired i r.answer ≡ fired i r'.answer
 
 module _ (m n : ℕ) (b b' : Board) (z : Formed b) (z' : Formed b') (h : SameBut m b.timers b'.timers) where
-  t : (turn_of b (call.Advance n)).board.timers ≡ timersTicks n b.timers
+  t : (turn_of b (call.Advance n)).board.timers ≡ timers_ticks n b.timers
   t = ap (λ (x : Board). x.timers) (after b z n) ∙ ticks-timers b z n
 
-  t' : (turn_of b' (call.Advance n)).board.timers ≡ timersTicks n b'.timers
+  t' : (turn_of b' (call.Advance n)).board.timers ≡ timers_ticks n b'.timers
   t' = ap (λ (x : Board). x.timers) (after b' z' n) ∙ ticks-timers b' z' n
 
-  alike : SameBut m (timersTicks n b.timers) (timersTicks n b'.timers)
+  alike : SameBut m (timers_ticks n b.timers) (timers_ticks n b'.timers)
   alike = ticks-alike m n b.timers b'.timers h
 
   same : (f : Timer → ℕ) (i : ℕ) → i < 3 → (i ≡ m → ⊥) → f (at (turn_of b (call.Advance n)).board.timers i) ≡ f (at (turn_of b' (call.Advance n)).board.timers i)

@@ -11,7 +11,7 @@ use Rattle.entries.proofs.Sized.{Sized as EntriesSized, wired-sized}
 use Rattle.entries.proofs.Formed.{wired-ok}
 use Rattle.entries.proofs.Pulse.{settled, wired-same, wired-level, wired-settled, pulse-rests, pulse-settled, pulsed-settled, pulsed-ok, pulsed-sized, pulsed-level, pulsed-is}
 use Rattle.controller.specs.declared.Controller.{Controller}
-use Rattle.controller.specs.State.{with_entries, well_formed as controllerFormed}
+use Rattle.controller.specs.State.{with_entries, well_formed as controller_formed}
 use Rattle.controller.specs.Steps.{rewired}
 use Rattle.controller.proofs.Formed.{formed, well-formed}
 use Rattle.timers.specs.declared.Timers.{Timers}
@@ -30,7 +30,7 @@ unfoldable pub still : Controller → Timers → ℕ → Bool
 still c s m = risen_of s m && (not (pulses_of s m) || settled c.entries (route_of s m))
 
 -- the controller with other entries is well formed as before, where they are
-entries-formed : (c : Controller) (e : Entries) → controllerFormed c ≡ true → entries_ok e ≡ true → controllerFormed (with_entries c e) ≡ true
+entries-formed : (c : Controller) (e : Entries) → controller_formed c ≡ true → entries_ok e ≡ true → controller_formed (with_entries c e) ≡ true
 entries-formed c e w ok = well-formed (with_entries c e) (record { id = (formed c w).id; index = (formed c w).index; entries = ok })
 
 module _ (b : Board) (z : Formed b) (m : ℕ) (l : m < 3) where
@@ -89,7 +89,7 @@ module _ (b : Board) (z : Formed b) (m : ℕ) (l : m < 3) where
   fire-formed =
       record {
         controlled =
-            by_cases (λ x. controllerFormed x ≡ true)
+            by_cases (λ x. controller_formed x ≡ true)
             (λ e. entries-formed c (pulsed c.entries levels p) z.controlled (pulsed-ok c.entries levels p levels-ok own-ok))
             (λ e. entries-formed c (wired c.entries (wires_of o s')) z.controlled (wired-ok c.entries own-ok (wires_of o s') (wires-ok o s')));
         timed = fired-formed s z.timed m l;

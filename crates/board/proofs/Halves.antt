@@ -16,7 +16,7 @@ use Rattle.timers.proofs.Halves as Timed
 use Rattle.timers.proofs.LowOnly.{LowOnly, low-only}
 use Rattle.board.specs.declared.Board.{Board}
 use Rattle.board.specs.declared.Turn.{Turn}
-use Rattle.board.specs.State.{board, turn}
+use Rattle.board.specs.State.{turn}
 use Rattle.board.specs.Wires.{joined}
 use Rattle.board.specs.Step.{by_timers, turn_of}
 use Rattle.board.specs.Runs.{answers}

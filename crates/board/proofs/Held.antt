@@ -10,8 +10,8 @@ use Rattle.entries.specs.Table.{held_at, eligible_at}
 use Rattle.entries.proofs.Pulse.{wired-keeps}
 use Rattle.controller.specs.declared.Controller.{Controller}
 use Rattle.controller.specs.declared.Turn.{Turn as ControllerTurn}
-use Rattle.controller.specs.Window.{reading_of as controllerReading}
-use Rattle.controller.specs.Calls.{write as writeCall, deliver as deliverCall}
+use Rattle.controller.specs.Window.{reading_of as controller_reading}
+use Rattle.controller.specs.Calls.{write as write_call, deliver as deliver_call}
 use Rattle.controller.proofs.Demands.{read-served, write-served, deliver-served, deliver-is, status-read as controller-status-read}
 use Rattle.controller.proofs.Lasts.{Level, delivered as controller-delivered, rewritten as controller-rewritten}
 use Rattle.controller.proofs.Held.{HeldOn, held-lasts, held-lost as controller-held-lost}
@@ -69,12 +69,12 @@ module _ (p : ℕ) (l : p < 24) where
         let d = deliver-served c z.controlled in
         ap (λ (t : Turn). held_at t.board.controller.entries p) s
         ∙ ap (λ (t : ControllerTurn). held_at t.controller.entries p) (sym (deliver-is c ∙ d))
-        ∙ controller-held-lost c z.sized p l h z.controlled deliverCall
+        ∙ controller-held-lost c z.sized p l h z.controlled deliver_call
         (controller-delivered tt (ap (λ (t : ControllerTurn). t.answer) d ∙ sym (ap (λ (t : Turn). t.answer) s) ∙ e))
     held-lost _ (rewritten v i u t) =
         ap (λ (t : Turn). held_at t.board.controller.entries p) (served b (call.Write 0 4 0x10 v) (formed-out b z))
         ∙ ap (λ (t : ControllerTurn). held_at t.controller.entries p) (sym (write-served c z.controlled 4 0x10 v))
-        ∙ controller-held-lost c z.sized p l h z.controlled (writeCall 4 0x10 v) (controller-rewritten 4 0x10 v refl refl i u t)
+        ∙ controller-held-lost c z.sized p l h z.controlled (write_call 4 0x10 v) (controller-rewritten 4 0x10 v refl refl i u t)
     held-lost _ (reset a e _) = ap (λ (t : Turn). held_at t.board.controller.entries p) (reset-done b a e) ∙ get_or-replicate 24 p 0 0 l
 
   -- any sequence of calls of which none loses it keeps it too
@@ -84,7 +84,7 @@ module _ (p : ℕ) (l : p < 24) where
 -- ---- "Bit 12 reads 1 exactly for an eligible pin"
 
 module _ (b : Board) (z : Formed b) (i : ℕ) (l : i < 24) (at : b.controller.index ≡ 0x10 + 2 * i) where
-  low_read : (turn_of b (call.Read 0 4 0x10)).answer ≡ (controllerReading b.controller 4 0x10).answer
+  low_read : (turn_of b (call.Read 0 4 0x10)).answer ≡ (controller_reading b.controller 4 0x10).answer
   unfolding served_of reading_of
   low_read = ap (λ (t : Turn). t.answer) (served b (call.Read 0 4 0x10) (formed-out b z))
 

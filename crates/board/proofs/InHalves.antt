@@ -31,7 +31,7 @@ use Rattle.board.specs.Accesses.{set, set_half}
 use Rattle.board.specs.Accesses as Accesses
 use Rattle.board.proofs.Formed.{Formed}
 use Rattle.board.proofs.Keeps.{keeps}
-use Rattle.board.proofs.Windows.{joined-still, joined-timers, timers-reads, sets}
+use Rattle.board.proofs.Windows.{joined-still, joined-timers, sets}
 use Rattle.board.proofs.TimersMap.{register, shown, shown-is}
 use Rattle.board.proofs.Halves.{Three, half-sets, half-done, low-whole, high-nothing}
 use Rattle.board.proofs.ComparatorHalves.{bits, narrow}

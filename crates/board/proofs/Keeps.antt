@@ -14,22 +14,22 @@ use Rattle.entries.proofs.Pulse.{set-ok}
 use Rattle.entries.proofs.Delivery.{ended-level}
 use Rattle.controller.specs.declared.Controller.{Controller}
 use Rattle.controller.specs.declared.Turn.{Turn as ControllerTurn}
-use Rattle.controller.specs.Window.{reading_of as controllerReading, writing_of as controllerWriting}
+use Rattle.controller.specs.Window.{reading_of as controller_reading, writing_of as controller_writing}
 use Rattle.controller.specs.Steps.{delivering_of}
 use Rattle.controller.proofs.Formed.{reset-formed as controller-reset}
 use Rattle.controller.proofs.Formed.{Keeps, reading-same, writing-keeps, writing-levels, ended-keeps, delivering-keeps, delivering-levels}
-use Rattle.timers.specs.Call.{reading_of as timersReading, writing_of as timersWriting}
+use Rattle.timers.specs.Call.{reading_of as timers_reading, writing_of as timers_writing}
 use Rattle.settings.specs.declared.Settings.{Settings}
 use Rattle.settings.specs.Settings.{standard, in_range}
 use Rattle.settings.proofs.Ranges.{standard-in-range, id-of, id-in}
-use Rattle.timers.specs.State.{reset_to as timersReset}
+use Rattle.timers.specs.State.{reset_to as timers_reset}
 use Rattle.timers.proofs.Formed.{writing-formed, reset-formed as timers-reset}
 use Rattle.timers.proofs.Wires.{reset-drives}
 use Rattle.board.specs.declared.Board.{Board}
 use Rattle.board.specs.declared.Call.{Call}
 use Rattle.board.specs.declared.Call.TheVariants as call
 use Rattle.board.specs.declared.Turn.{Turn}
-use Rattle.board.specs.State.{board, reset_to, reset_board, with_controller, turn, refused}
+use Rattle.board.specs.State.{reset_to, reset_board, with_controller, turn, refused}
 use Rattle.board.specs.Wires.{high_at, wires_of, joined}
 use Rattle.board.specs.Formed.{well_formed}
 use Rattle.board.specs.Step.{by_controller, by_timers, reading_of, writing_of, wiring_of, ending_of, advancing_of, delivering_on_board, resetting_of, served_of, turn_of}
@@ -41,13 +41,13 @@ use Rattle.board.proofs.Served.{formed-taken, turn-served}
 -- ---- reset, with settings in range
 
 -- every wire is low
-low-wires : (z : Settings) → replicate 24 0 ≡ wires_of (replicate 24 0) (timersReset z)
+low-wires : (z : Settings) → replicate 24 0 ≡ wires_of (replicate 24 0) (timers_reset z)
 unfolding high_at
 low-wires z =
-    ext_get_or 0 (replicate 24 0) (wires_of (replicate 24 0) (timersReset z)) (sym (wires-long (replicate 24 0) (timersReset z)))
+    ext_get_or 0 (replicate 24 0) (wires_of (replicate 24 0) (timers_reset z)) (sym (wires-long (replicate 24 0) (timers_reset z)))
     (λ i l.
     let low : get_or {A = ℕ} (replicate 24 0) i 0 ≡ 0 = get_or-replicate 24 i 0 0 l in
-    low ∙ sym (wires-at (replicate 24 0) (timersReset z) i l ∙ (λ j. bool_byte (eqb (low j) 1 || reset-drives z i j))))
+    low ∙ sym (wires-at (replicate 24 0) (timers_reset z) i l ∙ (λ j. bool_byte (eqb (low j) 1 || reset-drives z i j))))
 
 pub reset-sized : (z : Settings) → Sized (reset_to z)
 reset-sized z = record { low = refl; destination = refl; level = refl; held = refl }
@@ -78,7 +78,7 @@ module _ (b : Board) (z : Formed b) where
   unfolding reading_of
   reading-keeps n w o = go (eqb n 0) (eqb n 1)
     where
-      go : (x y : Bool) → Formed (cond x (by_controller b (controllerReading b.controller w o)) (cond y (turn b (timersReading b.timers w o).answer) (refused b refusal.Window))).board
+      go : (x y : Bool) → Formed (cond x (by_controller b (controller_reading b.controller w o)) (cond y (turn b (timers_reading b.timers w o).answer) (refused b refusal.Window))).board
       go true y = subst (λ (c : Controller). Formed (with_controller b c)) (sym (reading-same b.controller w o)) z
       go false true = z
       go false false = z
@@ -89,10 +89,10 @@ module _ (b : Board) (z : Formed b) where
     where
       go :
           (x y : Bool) →
-          Formed (cond x (by_controller b (controllerWriting b.controller w o v)) (cond y (by_timers b (timersWriting b.timers w o v)) (refused b refusal.Window))).board
-      go true y = with-controller (controllerWriting b.controller w o v) (writing-keeps b.controller z.controlled z.sized w o v) (writing-levels b.controller w o v)
+          Formed (cond x (by_controller b (controller_writing b.controller w o v)) (cond y (by_timers b (timers_writing b.timers w o v)) (refused b refusal.Window))).board
+      go true y = with-controller (controller_writing b.controller w o v) (writing-keeps b.controller z.controlled z.sized w o v) (writing-levels b.controller w o v)
       go false true =
-          joined-formed b.controller (timersWriting b.timers w o v).timers b.outside z.controlled z.sized (writing-formed b.timers w o z.timed v) z.outer
+          joined-formed b.controller (timers_writing b.timers w o v).timers b.outside z.controlled z.sized (writing-formed b.timers w o z.timed v) z.outer
       go false false = z
 
   wiring-keeps : (p l : ℕ) → Formed (wiring_of b p l).board

@@ -14,12 +14,12 @@ use Rattle.entries.specs.declared.Entries.{Entries}
 use Rattle.entries.specs.Table.{reset_entries, given}
 use Rattle.controller.specs.declared.Controller.{Controller}
 use Rattle.controller.specs.declared.Turn.{Turn as ControllerTurn}
-use Rattle.controller.specs.Window.{reading_of as controllerReading, writing_of as controllerWriting}
-use Rattle.controller.specs.Calls.{write as writeCall, deliver as deliverCall}
+use Rattle.controller.specs.Window.{reading_of as controller_reading, writing_of as controller_writing}
+use Rattle.controller.specs.Calls.{write as write_call, deliver as deliver_call}
 use Rattle.controller.proofs.Formed.{reading-same}
 use Rattle.controller.proofs.Demands.{write-served, deliver-served, deliver-is}
 use Rattle.controller.proofs.Lasts.{Lasts, kept as controller-kept, Breaks as ControllerBreaks, delivered as controller-delivered, rewritten as controller-rewritten}
-use Rattle.timers.specs.Call.{reading_of as timersReading, writing_of as timersWriting}
+use Rattle.timers.specs.Call.{reading_of as timers_reading, writing_of as timers_writing}
 use Rattle.board.specs.declared.Board.{Board}
 use Rattle.board.specs.declared.Call.{Call}
 use Rattle.board.specs.declared.Call.TheVariants as call
@@ -53,10 +53,10 @@ module _ {D : Type 0} {W : ℕ → Type 0} {R : Type 0} {p : ℕ} {P : Entries �
     On d = P d.controller.entries
 
     -- the controller's two, on the board
-    write-breaks : (w o v : ℕ) → ControllerBreaks D W c p (writeCall w o v) → Breaks D W R b p (call.Write 0 w o v)
+    write-breaks : (w o v : ℕ) → ControllerBreaks D W c p (write_call w o v) → Breaks D W R b p (call.Write 0 w o v)
     write-breaks w o v (controller-rewritten _ _ _ x y i u t) = rw (x, y) (rewritten v i u t)
 
-    deliver-breaks : ControllerBreaks D W c p deliverCall → Breaks D W R b p call.Deliver
+    deliver-breaks : ControllerBreaks D W c p deliver_call → Breaks D W R b p call.Deliver
     unfolding served_of delivering_on_board
     deliver-breaks (controller-delivered d e) =
         delivered d
@@ -67,7 +67,7 @@ module _ {D : Type 0} {W : ℕ → Type 0} {R : Type 0} {p : ℕ} {P : Entries �
     unfolding reading_of
     reading-keeps n w o = go (eqb n 0) (eqb n 1)
       where
-        go : (x y : Bool) → On (cond x (by_controller b (controllerReading c w o)) (cond y (turn b (timersReading b.timers w o).answer) (refused b refusal.Window))).board
+        go : (x y : Bool) → On (cond x (by_controller b (controller_reading c w o)) (cond y (turn b (timers_reading b.timers w o).answer) (refused b refusal.Window))).board
         go true y = subst (λ (d : Controller). P d.entries) (sym (reading-same c w o)) h
         go false true = h
         go false false = h
@@ -78,11 +78,11 @@ module _ {D : Type 0} {W : ℕ → Type 0} {R : Type 0} {p : ℕ} {P : Entries �
       where
         go :
             (x : Bool) → eqb n 0 ≡ x → (y : Bool) →
-            On (cond x (by_controller b (controllerWriting c w o v)) (cond y (by_timers b (timersWriting b.timers w o v)) (refused b refusal.Window))).board
+            On (cond x (by_controller b (controller_writing c w o v)) (cond y (by_timers b (timers_writing b.timers w o v)) (refused b refusal.Window))).board
         go true e y =
             subst (λ (t : ControllerTurn). P t.controller.entries) (write-served c z.controlled w o v)
-            (controller-kept s l c z.sized h (writeCall w o v) (λ k. f (rw (eqb-true n 0 e) (write-breaks w o v k))))
-        go false e true = joined_keeps P s.wires c (timersWriting b.timers w o v).timers b.outside h
+            (controller-kept s l c z.sized h (write_call w o v) (λ k. f (rw (eqb-true n 0 e) (write-breaks w o v k))))
+        go false e true = joined_keeps P s.wires c (timers_writing b.timers w o v).timers b.outside h
         go false e false = h
 
     resetting-keeps : (a : Settings) → (Breaks D W R b p (call.Reset a) → ⊥) → On (resetting_of b a).board
@@ -102,7 +102,7 @@ module _ {D : Type 0} {W : ℕ → Type 0} {R : Type 0} {p : ℕ} {P : Entries �
     served-keeps (call.Advance n) f = ticks-keep P s.wires n b h
     served-keeps call.Deliver f =
         subst (λ (t : ControllerTurn). P t.controller.entries) (deliver-is c ∙ deliver-served c z.controlled)
-        (controller-kept s l c z.sized h deliverCall (λ k. f (deliver-breaks k)))
+        (controller-kept s l c z.sized h deliver_call (λ k. f (deliver-breaks k)))
     served-keeps (call.Reset a) f = resetting-keeps a f
 
     -- every call keeps it, unless it is one that may break it

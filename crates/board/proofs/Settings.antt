@@ -20,12 +20,12 @@ use Rattle.timer.specs.Registers.{configuration_of}
 use Rattle.timer.proofs.ReadBack.{configuration-reads, configuration-mask, reset-configuration}
 use Rattle.timers.specs.declared.Timers.{Timers}
 use Rattle.timers.specs.State.{at, mask_at}
-use Rattle.timers.specs.Call.{reading_of as timersReading, writing_of as timersWriting}
+use Rattle.timers.specs.Call.{reading_of as timers_reading, writing_of as timers_writing}
 use Rattle.timers.proofs.Formed.{formed-in}
 use Rattle.timers.proofs.Access.{read-capabilities}
 use Rattle.timers.proofs.Places.{configuration-read}
 use Rattle.timers.proofs.Settings.{Kept, kept_same, kept_on, capabilities-fit, ticks-kept, writing-kept, reset-mask, reset-timer, reset-kept}
-use Rattle.controller.specs.Window.{reading_of as controllerReading, writing_of as controllerWriting}
+use Rattle.controller.specs.Window.{reading_of as controller_reading, writing_of as controller_writing}
 use Rattle.board.specs.declared.Board.{Board}
 use Rattle.board.specs.declared.Call.{Call}
 use Rattle.board.specs.declared.Call.TheVariants as call
@@ -107,16 +107,16 @@ module _ (b : Board) (f : Formed b) where
   unfolding writing_of
   writing-same n w o v = go (eqb n 0) (eqb n 1)
     where
-      go : (x y : Bool) → Kept s (cond {A = Turn} x (by_controller b (controllerWriting b.controller w o v)) (cond y (by_timers b (timersWriting s w o v)) (refused b refusal.Window))).board.timers
+      go : (x y : Bool) → Kept s (cond {A = Turn} x (by_controller b (controller_writing b.controller w o v)) (cond y (by_timers b (timers_writing s w o v)) (refused b refusal.Window))).board.timers
       go true y = kept_same s
-      go false true = subst (Kept s) (sym (joined-timers b.controller (timersWriting s w o v).timers b.outside)) (writing-kept s w o v)
+      go false true = subst (Kept s) (sym (joined-timers b.controller (timers_writing s w o v).timers b.outside)) (writing-kept s w o v)
       go false false = kept_same s
 
   reading-same : (n w o : ℕ) → Kept s (reading_of b n w o).board.timers
   unfolding reading_of
   reading-same n w o = go (eqb n 0) (eqb n 1)
     where
-      go : (x y : Bool) → Kept s (cond {A = Turn} x (by_controller b (controllerReading b.controller w o)) (cond y (turn b (timersReading s w o).answer) (refused b refusal.Window))).board.timers
+      go : (x y : Bool) → Kept s (cond {A = Turn} x (by_controller b (controller_reading b.controller w o)) (cond y (turn b (timers_reading s w o).answer) (refused b refusal.Window))).board.timers
       go true y = kept_same s
       go false true = kept_same s
       go false false = kept_same s

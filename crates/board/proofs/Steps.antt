@@ -13,12 +13,12 @@ use Rattle.entries.specs.declared.Entries.{Entries}
 use Rattle.entries.specs.Table.{held_at, wired}
 use Rattle.entries.proofs.Gained.{Rises, Exact, wired-exact, quiet-exact, reset-exact, ended-exact}
 use Rattle.controller.specs.declared.Controller.{Controller}
-use Rattle.controller.specs.Window.{reading_of as controllerReading, writing_of as controllerWriting}
-use Rattle.controller.specs.Calls.{write as writeCall}
+use Rattle.controller.specs.Window.{reading_of as controller_reading, writing_of as controller_writing}
+use Rattle.controller.specs.Calls.{write as write_call}
 use Rattle.controller.proofs.Formed.{reading-same}
 use Rattle.controller.proofs.Gained.{LowWrite as ControllerLowWrite, low-write as controller-low-write, writing-exact as controller-writing-exact, delivering-exact, low-writing-none}
 use Rattle.timers.specs.Tick.{fired_of, pulses_of, route_of}
-use Rattle.timers.specs.Call.{reading_of as timersReading, writing_of as timersWriting}
+use Rattle.timers.specs.Call.{reading_of as timers_reading, writing_of as timers_writing}
 use Rattle.board.specs.declared.Board.{Board}
 use Rattle.board.specs.declared.Call.{Call}
 use Rattle.board.specs.declared.Call.TheVariants as call
@@ -85,12 +85,12 @@ module _ (b : Board) (z : Formed b) (p : ℕ) (l : p < 24) where
   unfolding reading_of
   reading-exact n w o = go (eqb n 0) (eqb n 1)
     where
-      go : (x y : Bool) → Exact p e (entries_of (cond x (by_controller b (controllerReading c w o)) (cond y (turn b (timersReading b.timers w o).answer) (refused b refusal.Window))).board)
+      go : (x y : Bool) → Exact p e (entries_of (cond x (by_controller b (controller_reading c w o)) (cond y (turn b (timers_reading b.timers w o).answer) (refused b refusal.Window))).board)
       go true y = subst (λ (d : Controller). Exact p e d.entries) (sym (reading-same c w o)) same
       go false true = same
       go false false = same
 
-  write_low : (w o v : ℕ) → ControllerLowWrite c (writeCall w o v) → LowWrite b (call.Write 0 w o v)
+  write_low : (w o v : ℕ) → ControllerLowWrite c (write_call w o v) → LowWrite b (call.Write 0 w o v)
   write_low w o v (controller-low-write _ _ _ n x y u i t) = rw (x, y) (low-write v n u i t)
 
   writing-exact : (n w o v : ℕ) → (LowWrite b (call.Write n w o v) → ⊥) → Exact p e (entries_of (writing_of b n w o v).board)
@@ -99,9 +99,9 @@ module _ (b : Board) (z : Formed b) (p : ℕ) (l : p < 24) where
     where
       go :
           (x : Bool) → eqb n 0 ≡ x → (y : Bool) →
-          Exact p e (entries_of (cond x (by_controller b (controllerWriting c w o v)) (cond y (by_timers b (timersWriting b.timers w o v)) (refused b refusal.Window))).board)
+          Exact p e (entries_of (cond x (by_controller b (controller_writing c w o v)) (cond y (by_timers b (timers_writing b.timers w o v)) (refused b refusal.Window))).board)
       go true q y = controller-writing-exact c z.sized p l w o v (λ k. f (rw (eqb-true n 0 q) (write_low w o v k)))
-      go false q true = wired-exact e (wires_of b.outside (timersWriting b.timers w o v).timers) p l
+      go false q true = wired-exact e (wires_of b.outside (timers_writing b.timers w o v).timers) p l
       go false q false = same
 
   wiring-exact : (i x : ℕ) → Exact p e (entries_of (wiring_of b i x).board)

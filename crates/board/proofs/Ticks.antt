@@ -6,7 +6,7 @@ use mathlib.Core.Bool.{Bool, true, cond}
 use mathlib.Core.Logic.{◌⊎◌, inl, inr}
 use native.Mathlib.Nat.{add-zero, add-suc, add_assoc}
 use Rattle.timers.specs.declared.Timers.{Timers}
-use Rattle.timers.specs.Tick.{tick as timersTick, ticks as timersTicks, fires_in as timersFiresIn, firings as timersFirings}
+use Rattle.timers.specs.Tick.{tick as timers_tick, ticks as timers_ticks, fires_in as timers_fires_in, firings as timers_firings}
 use Rattle.timers.specs.Inner.{first}
 use Rattle.timers.proofs.Each.{ticks-zero, ticks-suc}
 use Rattle.timers.proofs.Turns.{firings-zero, firings-suc, first-zero}
@@ -37,21 +37,21 @@ module _ (b : Board) (z : Formed b) where
   ticks-formed zero = z
   ticks-formed (suc n) = tick-formed (ticks n b) (ticks-formed n)
 
-  pub ticks-timers : (n : ℕ) → (ticks n b).timers ≡ timersTicks n b.timers
+  pub ticks-timers : (n : ℕ) → (ticks n b).timers ≡ timers_ticks n b.timers
   unfolding ticks
   ticks-timers zero = sym (ticks-zero b.timers)
-  ticks-timers (suc n) = tick-timers (ticks n b) (ticks-formed n) ∙ ap timersTick (ticks-timers n) ∙ sym (ticks-suc b.timers n)
+  ticks-timers (suc n) = tick-timers (ticks n b) (ticks-formed n) ∙ ap timers_tick (ticks-timers n) ∙ sym (ticks-suc b.timers n)
 
   pub ticks-outside : (n : ℕ) → (ticks n b).outside ≡ b.outside
   unfolding ticks
   ticks-outside zero = refl
   ticks-outside (suc n) = tick-outside (ticks n b) (ticks-formed n) ∙ ticks-outside n
 
-  fires-as : (m n : ℕ) → fires_in m (ticks n b) ≡ timersFiresIn (timersTicks n b.timers) m
-  fires-as m n = tick-fires (ticks n b) (ticks-formed n) m ∙ ap (λ (x : Timers). timersFiresIn x m) (ticks-timers n)
+  fires-as : (m n : ℕ) → fires_in m (ticks n b) ≡ timers_fires_in (timers_ticks n b.timers) m
+  fires-as m n = tick-fires (ticks n b) (ticks-formed n) m ∙ ap (λ (x : Timers). timers_fires_in x m) (ticks-timers n)
 
   -- the counts are the timer block's
-  pub ticks-firings : (m n : ℕ) → firings m n b ≡ timersFirings m n b.timers
+  pub ticks-firings : (m n : ℕ) → firings m n b ≡ timers_firings m n b.timers
   unfolding firings
   ticks-firings m zero = sym (firings-zero m b.timers)
   ticks-firings m (suc n) = ap₂ (λ (x : ℕ) (f : Bool). x + cond f 1 0) (ticks-firings m n) (fires-as m n) ∙ sym (firings-suc m b.timers n)
@@ -66,6 +66,6 @@ module _ (b : Board) (z : Formed b) where
   still_after m l zero f = absurd (f (first-zero m b.timers))
   still_after m l (suc n) f = tick-still (ticks n b) (ticks-formed n) m l (go (still_after m l n) (first-fires m n b.timers f))
     where
-      go : (Begun m n → Still m (ticks n b)) → Begun m n ⊎ (timersFiresIn (timersTicks n b.timers) m ≡ true) → Still m (ticks n b) ⊎ (timersFiresIn (ticks n b).timers m ≡ true)
+      go : (Begun m n → Still m (ticks n b)) → Begun m n ⊎ (timers_fires_in (timers_ticks n b.timers) m ≡ true) → Still m (ticks n b) ⊎ (timers_fires_in (ticks n b).timers m ≡ true)
       go s (inl h) = inl (s h)
-      go s (inr h) = inr (ap (λ (x : Timers). timersFiresIn x m) (ticks-timers n) ∙ h)
+      go s (inr h) = inr (ap (λ (x : Timers). timers_fires_in x m) (ticks-timers n) ∙ h)

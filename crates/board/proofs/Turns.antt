@@ -11,7 +11,7 @@ use Rattle.entries.proofs.Pulse.{settled}
 use Rattle.controller.specs.declared.Controller.{Controller}
 use Rattle.timers.specs.declared.Timers.{Timers}
 use Rattle.timers.specs.State.{is_enabled}
-use Rattle.timers.specs.Tick.{counted_of, matches_of, turned_of, pulses_of, route_of, up_to as timersUpTo, tick as timersTick, fires_in as timersFiresIn}
+use Rattle.timers.specs.Tick.{counted_of, matches_of, turned_of, pulses_of, route_of, up_to as timers_up_to, tick as timers_tick, fires_in as timers_fires_in}
 use Rattle.timers.proofs.Each.{tick-on, tick-off}
 use Rattle.timers.proofs.Wires.{risen_of, counted-drives, counted-risen, counted-pulses, counted-route, fired-matches}
 use Rattle.timers.proofs.Turns.{turned-fires, turned-rests, turns-zero, turns-suc, turns-matches, fires-on, fires-when, fires-off}
@@ -119,7 +119,7 @@ module _ (b : Board) (z : Formed b) where
       }
   turns-formed (suc m) l = turned-formed (up_to m b) (turns-formed m (omega arith)) m l
 
-  pub turns-timers : (m : ℕ) → (up_to m b).timers ≡ timersUpTo m s
+  pub turns-timers : (m : ℕ) → (up_to m b).timers ≡ timers_up_to m s
   unfolding up_to
   turns-timers zero = sym (turns-zero s)
   turns-timers (suc m) = turned-timers m (up_to m b) ∙ ap (λ (x : Timers). turned_of x m) (turns-timers m) ∙ sym (turns-suc s m)
@@ -161,11 +161,11 @@ module _ (b : Board) (z : Formed b) where
   -- ---- a tick
 
   -- it is a tick of the timer block, and leaves the outside wires
-  pub tick-timers : (tick b).timers ≡ timersTick s
+  pub tick-timers : (tick b).timers ≡ timers_tick s
   unfolding tick
   tick-timers = go (is_enabled s) refl
     where
-      go : (x : Bool) → is_enabled s ≡ x → (cond x (up_to 3 b) b).timers ≡ timersTick s
+      go : (x : Bool) → is_enabled s ≡ x → (cond x (up_to 3 b) b).timers ≡ timers_tick s
       go true e = turns-timers 3 ∙ sym (tick-on s e)
       go false e = sym (tick-off s e)
 
@@ -186,20 +186,20 @@ module _ (b : Board) (z : Formed b) where
       go false = z
 
   -- a timer fires in it as in the timer block's
-  pub tick-fires : (m : ℕ) → fires_in m b ≡ timersFiresIn s m
+  pub tick-fires : (m : ℕ) → fires_in m b ≡ timers_fires_in s m
   unfolding fires_in
   tick-fires m = go (is_enabled s) refl
     where
-      go : (x : Bool) → is_enabled s ≡ x → (x && matches_of (up_to m b).timers m) ≡ timersFiresIn s m
+      go : (x : Bool) → is_enabled s ≡ x → (x && matches_of (up_to m b).timers m) ≡ timers_fires_in s m
       go true e = ap (λ (x : Timers). matches_of x m) (turns-timers m) ∙ sym (fires-when s m e)
       go false e = sym (fires-off s m e)
 
   -- a timer that fires in it, or was still, is still after it
-  pub tick-still : (j : ℕ) → j < 3 → Still j b ⊎ (timersFiresIn s j ≡ true) → Still j (tick b)
+  pub tick-still : (j : ℕ) → j < 3 → Still j b ⊎ (timers_fires_in s j ≡ true) → Still j (tick b)
   unfolding tick
   tick-still j k q = go (is_enabled s) refl q
     where
-      go : (x : Bool) → is_enabled s ≡ x → Still j b ⊎ (timersFiresIn s j ≡ true) → Still j (cond x (up_to 3 b) b)
+      go : (x : Bool) → is_enabled s ≡ x → Still j b ⊎ (timers_fires_in s j ≡ true) → Still j (cond x (up_to 3 b) b)
       go true e (inl h) = turns-still j k (inl h)
       go true e (inr h) = turns-still j k (inr (sym (fires-on s j k e) ∙ h))
       go false e (inl h) = h

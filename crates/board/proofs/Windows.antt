@@ -11,13 +11,13 @@ use Rattle.entries.proofs.Pulse.{wired-same}
 use Rattle.controller.specs.declared.Controller.{Controller}
 use Rattle.controller.specs.State.{with_index, with_entries}
 use Rattle.controller.specs.Steps.{rewired}
-use Rattle.controller.specs.Window.{data_read, data_written, reading_of as controllerReading, writing_of as controllerWriting}
+use Rattle.controller.specs.Window.{data_read, data_written, reading_of as controller_reading, writing_of as controller_writing}
 use Rattle.controller.proofs.ReadBack.{reads-index, reads-data}
 use Rattle.controller.proofs.ReadBack.{selects as controller-selects, puts as controller-puts}
 use Rattle.timers.specs.declared.Timers.{Timers}
 use Rattle.timers.specs.Registers.{register_of, written_of}
 use Rattle.timers.specs.Tick.{drives_of}
-use Rattle.timers.specs.Call.{reading_of as timersReading, writing_of as timersWriting, turn as timersTurn}
+use Rattle.timers.specs.Call.{reading_of as timers_reading, writing_of as timers_writing, turn as timers_turn}
 use Rattle.timers.proofs.Access.{reading-done, writing-done, shown-whole, stored-whole}
 use Rattle.board.specs.declared.Board.{Board}
 use Rattle.board.specs.declared.Call.TheVariants as call
@@ -59,20 +59,20 @@ unfolding joined
 joined-timers c s o = refl
 
 module _ (b : Board) (z : Formed b) (w o : ℕ) where
-  controller-reads : turn_of b (call.Read 0 w o) ≡ by_controller b (controllerReading b.controller w o)
+  controller-reads : turn_of b (call.Read 0 w o) ≡ by_controller b (controller_reading b.controller w o)
   unfolding reading_of
   controller-reads = served b (call.Read 0 w o) (formed-out b z) ∙ served-read b 0 w o
 
-  pub timers-reads : turn_of b (call.Read 1 w o) ≡ turn b (timersReading b.timers w o).answer
+  pub timers-reads : turn_of b (call.Read 1 w o) ≡ turn b (timers_reading b.timers w o).answer
   unfolding reading_of
   timers-reads = served b (call.Read 1 w o) (formed-out b z) ∙ served-read b 1 w o
 
   module _ (v : ℕ) where
-    pub controller-writes : turn_of b (call.Write 0 w o v) ≡ by_controller b (controllerWriting b.controller w o v)
+    pub controller-writes : turn_of b (call.Write 0 w o v) ≡ by_controller b (controller_writing b.controller w o v)
     unfolding writing_of
     controller-writes = served b (call.Write 0 w o v) (formed-out b z) ∙ served-write b 0 w o v
 
-    pub timers-writes : turn_of b (call.Write 1 w o v) ≡ by_timers b (timersWriting b.timers w o v)
+    pub timers-writes : turn_of b (call.Write 1 w o v) ≡ by_timers b (timers_writing b.timers w o v)
     unfolding writing_of
     timers-writes = served b (call.Write 1 w o v) (formed-out b z) ∙ served-write b 1 w o v
 
@@ -96,7 +96,7 @@ module _ (b : Board) (z : Formed b) where
   -- the timers' registers stand at multiples of 8 below 0x400
   module _ (o : ℕ) (a : o % 8 ≡ 0) (l : o < 0x400) where
     pub shows : turn_of b (show o) ≡ turn b (value (register_of b.timers o))
-    shows = timers-reads b z 8 o ∙ ap (λ t. turn b t.answer) (reading-done b.timers 8 o (eq-eqb (o % 8) 0 a) l ∙ ap (λ (v : ℕ). timersTurn b.timers (value v)) (shown-whole b.timers 8 o refl))
+    shows = timers-reads b z 8 o ∙ ap (λ t. turn b t.answer) (reading-done b.timers 8 o (eq-eqb (o % 8) 0 a) l ∙ ap (λ (v : ℕ). timers_turn b.timers (value v)) (shown-whole b.timers 8 o refl))
 
     pub sets : (v : ℕ) → turn_of b (set o v) ≡ turn (joined b.controller (written_of b.timers o v) b.outside) ok
-    sets v = timers-writes b z 8 o v ∙ ap (by_timers b) (writing-done b.timers 8 o v (eq-eqb (o % 8) 0 a) l refl ∙ ap (λ (x : Timers). timersTurn x ok) (stored-whole b.timers 8 o v refl))
+    sets v = timers-writes b z 8 o v ∙ ap (by_timers b) (writing-done b.timers 8 o v (eq-eqb (o % 8) 0 a) l refl ∙ ap (λ (x : Timers). timers_turn x ok) (stored-whole b.timers 8 o v refl))

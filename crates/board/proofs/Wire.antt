@@ -8,7 +8,6 @@ use lib.Dec.{eqb}
 use lib.ListN.{get_or, length, set, length-set}
 use lib.Seq.{ext_get_or, get_or-set_same, get_or-set_other}
 use mir.Val.{bool_byte}
-use Rattle.entries.specs.Table.{wired}
 use Rattle.entries.proofs.Pulse.{wired-one}
 use Rattle.controller.specs.declared.Controller.{Controller}
 use Rattle.controller.specs.State.{with_entries}

@@ -11,7 +11,7 @@ use Rattle.entries.proofs.Stays.{Stays, stays-given, stays_same, stays_then, wir
 use Rattle.controller.specs.Steps.{delivering_of}
 use Rattle.controller.proofs.ReadBack.{given-words, delivered-words}
 use Rattle.controller.proofs.Stays.{index-leaves, delivering-stays}
-use Rattle.timers.specs.Call.{writing_of as timersWriting}
+use Rattle.timers.specs.Call.{writing_of as timers_writing}
 use Rattle.board.specs.declared.Board.{Board}
 use Rattle.board.specs.declared.Call.{Call}
 use Rattle.board.specs.declared.Call.TheVariants as call
@@ -71,7 +71,7 @@ module _ (n : ℕ) (l : n < 24) where
     call_same c (reads w x o) = subst (Same b) (sym (read-leaves b w x o)) (stays_same n b.controller.entries)
     call_same c (selects w v) = by c _ (controller-writes b z w 0x00 v) (subst As (sym (index-leaves b.controller w v)) (stays_same n e))
     call_same c (sets w o v) =
-        by c _ (timers-writes b z w o v) (joined_keeps As wires-leave b.controller (timersWriting b.timers w o v).timers b.outside (stays_same n e))
+        by c _ (timers-writes b z w o v) (joined_keeps As wires-leave b.controller (timers_writing b.timers w o v).timers b.outside (stays_same n e))
     call_same c (wires p x) = by c _ (served b (call.Wire p x) (formed-out b z) ∙ served-wire b p x) (wiring-keeps As wires-leave b p x (stays_same n e))
     call_same c (ends v) = by c _ (served b (call.End v) (formed-out b z) ∙ served-end b v) (ended-stays n l e z.sized v)
     call_same c (advances k) = by c _ (served b (call.Advance k) (formed-out b z) ∙ served-advance b k) (ticks-keep As wires-leave k b (stays_same n e))

@@ -6,7 +6,7 @@ use Rattle.entries.specs.Word.{remote_of, level_of, word_ok}
 use Rattle.entries.specs.Pin.{pin_ok}
 use Rattle.entries.specs.Table.{reset_entries, with_low, with_level, with_held, entries_ok, levels_ok}
 use Rattle.controller.specs.declared.Controller.{Controller}
-use Rattle.controller.specs.State.{reset_controller, with_id, with_index, with_entries, well_formed as controllerFormed}
+use Rattle.controller.specs.State.{reset_controller, with_id, with_index, with_entries, well_formed as controller_formed}
 use Rattle.timer.specs.declared.Timer.{Timer}
 use Rattle.settings.specs.Settings.{vendor_ok, period_ok, mask_ok}
 use Rattle.timer.specs.Mask.{in_mask, lowest}
@@ -15,8 +15,8 @@ use Rattle.timer.specs.Formed.{flags_fit, narrow_fits, timer_formed}
 use Rattle.timer.specs.Tick.{driving}
 use Rattle.timers.specs.declared.Timers.{Timers}
 use Rattle.timers.specs.State.{with_enabled, with_timer, with_settings, reset_timers}
-use Rattle.timers.specs.State.{reset_to as timersReset}
-use Rattle.timers.specs.Formed.{settings_fit, well_formed as timersFormed}
+use Rattle.timers.specs.State.{reset_to as timers_reset}
+use Rattle.timers.specs.Formed.{settings_fit, well_formed as timers_formed}
 use Rattle.timers.specs.Tick.{drives_of}
 use Rattle.board.specs.declared.Board.{Board}
 use Rattle.board.specs.State.{board}
@@ -123,9 +123,9 @@ whole =
     ∷ []
 
 pub broken-refused : map well_formed broken ≡ map (λ (b : Board). false) broken
-unfolding broken tab all_from remote_of level_of word_ok pin_ok entries_ok levels_ok controllerFormed reset_timer driving flags_fit narrow_fits timer_formed lowest in_mask vendor_ok period_ok mask_ok timersReset settings_fit timersFormed drives_of high_at well_formed first_from
+unfolding broken tab all_from remote_of level_of word_ok pin_ok entries_ok levels_ok controller_formed reset_timer driving flags_fit narrow_fits timer_formed lowest in_mask vendor_ok period_ok mask_ok timers_reset settings_fit timers_formed drives_of high_at well_formed first_from
 broken-refused = refl
 
 pub whole-taken : map well_formed whole ≡ map (λ (b : Board). true) whole
-unfolding whole tab all_from remote_of level_of word_ok pin_ok entries_ok levels_ok controllerFormed reset_timer driving flags_fit narrow_fits timer_formed lowest in_mask vendor_ok period_ok mask_ok timersReset settings_fit timersFormed drives_of high_at well_formed first_from
+unfolding whole tab all_from remote_of level_of word_ok pin_ok entries_ok levels_ok controller_formed reset_timer driving flags_fit narrow_fits timer_formed lowest in_mask vendor_ok period_ok mask_ok timers_reset settings_fit timers_formed drives_of high_at well_formed first_from
 whole-taken = refl

@@ -2,8 +2,8 @@
 use Rattle.std.specs.Prelude.{ℕ, not, cond, ◌||◌, List, [], ◌∷◌, eqb}
 use Rattle.answers.specs.declared.Answer.{Answer}
 use Rattle.answers.specs.Order.{Test, test}
-use Rattle.controller.specs.Calls.{wire_tests, read_tests as controllerReadTests, write_tests as controllerWriteTests}
-use Rattle.timers.specs.Calls.{read_tests as timersReadTests, write_tests as timersWriteTests}
+use Rattle.controller.specs.Calls.{wire_tests, read_tests as controller_read_tests, write_tests as controller_write_tests}
+use Rattle.timers.specs.Calls.{read_tests as timers_read_tests, write_tests as timers_write_tests}
 use Rattle.settings.specs.Settings.{in_range}
 use Rattle.board.specs.declared.Board.{Board}
 use Rattle.board.specs.declared.Call.{Call}
@@ -33,9 +33,9 @@ access_tests window controller timers = test 1 (not (eqb window 0 || eqb window 
 -- a reset tests only 10
 unfoldable pub tests_of : Board → Call → List Test
 tests_of b (call.Read window width offset) =
-    formed_test b ∷ access_tests window (controllerReadTests width offset) (timersReadTests width offset)
+    formed_test b ∷ access_tests window (controller_read_tests width offset) (timers_read_tests width offset)
 tests_of b (call.Write window width offset value) =
-    formed_test b ∷ access_tests window (controllerWriteTests width offset value) (timersWriteTests width offset value)
+    formed_test b ∷ access_tests window (controller_write_tests width offset value) (timers_write_tests width offset value)
 tests_of b (call.Wire pin level) = formed_test b ∷ wire_tests pin level
 tests_of b (call.End vector) = formed_test b ∷ []
 tests_of b (call.Advance n) = formed_test b ∷ []

@@ -5,10 +5,10 @@ use Rattle.answers.specs.declared.Answer.TheVariants as answer
 use Rattle.answers.specs.declared.Refusal.{Refusal}
 use Rattle.controller.specs.declared.Controller.{Controller}
 use Rattle.controller.specs.State.{with_entries}
-use Rattle.controller.specs.State.{reset_to as controllerReset}
+use Rattle.controller.specs.State.{reset_to as controller_reset}
 use Rattle.entries.specs.Table.{with_low, with_level, with_held}
 use Rattle.timers.specs.declared.Timers.{Timers}
-use Rattle.timers.specs.State.{reset_to as timersReset}
+use Rattle.timers.specs.State.{reset_to as timers_reset}
 use Rattle.settings.specs.declared.Settings.{Settings}
 use Rattle.settings.specs.Settings.{standard}
 use Rattle.board.specs.declared.Board.{Board}
@@ -30,7 +30,7 @@ with_wires b l h o = board (with_entries b.controller (with_level (with_held b.c
 
 -- reset with settings: the controller's, the timers', outside wires low
 abbrev pub reset_to : Settings → Board
-reset_to z = board (controllerReset z.id) (timersReset z) (replicate 24 0)
+reset_to z = board (controller_reset z.id) (timers_reset z) (replicate 24 0)
 
 -- without: as in document 01
 abbrev pub reset_board : Board

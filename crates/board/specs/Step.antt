@@ -3,11 +3,11 @@
 use Rattle.std.specs.Prelude.{ℕ, Bool, true, cond, leb, ltb, eqb, set}
 use Rattle.answers.specs.declared.Answer.TheVariants as answer
 use Rattle.answers.specs.declared.Refusal.TheVariants as refusal
-use Rattle.controller.specs.Window.{reading_of as controllerReading, writing_of as controllerWriting}
+use Rattle.controller.specs.Window.{reading_of as controller_reading, writing_of as controller_writing}
 use Rattle.controller.specs.Steps.{after_end, delivering_of}
 use Rattle.controller.specs.declared.Turn.{Turn as ControllerTurn}
 use Rattle.timers.specs.declared.Turn.{Turn as TimersTurn}
-use Rattle.timers.specs.Call.{reading_of as timersReading, writing_of as timersWriting}
+use Rattle.timers.specs.Call.{reading_of as timers_reading, writing_of as timers_writing}
 use Rattle.board.specs.declared.Board.{Board}
 use Rattle.board.specs.declared.Call.{Call}
 use Rattle.board.specs.declared.Call.TheVariants as call
@@ -34,14 +34,14 @@ in_window b window controller timers = cond (eqb window 0) controller (cond (eqb
 unfoldable pub reading_of : Board → ℕ → ℕ → ℕ → Turn
 reading_of b window width offset =
     in_window b window
-    (by_controller b (controllerReading b.controller width offset))
-    (turn b (timersReading b.timers width offset).answer)
+    (by_controller b (controller_reading b.controller width offset))
+    (turn b (timers_reading b.timers width offset).answer)
 
 unfoldable pub writing_of : Board → ℕ → ℕ → ℕ → ℕ → Turn
 writing_of b window width offset value =
     in_window b window
-    (by_controller b (controllerWriting b.controller width offset value))
-    (by_timers b (timersWriting b.timers width offset value))
+    (by_controller b (controller_writing b.controller width offset value))
+    (by_timers b (timers_writing b.timers width offset value))
 
 -- the outside wire of a pin changes
 unfoldable pub wiring_of : Board → ℕ → ℕ → Turn

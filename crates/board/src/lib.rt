@@ -1,5 +1,7 @@
 // The board: the interrupt controller, the timer block and the wires between them.
 // Everything that can be done to it is a Call, everything that can come back an Answer (crate answers).
+#![tactic(auto)]
+
 mod advance;
 mod in_place;
 mod step;
@@ -12,7 +14,7 @@ use timers::Timers;
 
 // By value, 304 bytes, none of them padding.
 #[repr(C)]
-#[derive(Drop)]
+#[derive(Clone, Copy)]
 pub struct Board {
     pub timers: Timers,
     pub controller: Controller,
@@ -20,7 +22,7 @@ pub struct Board {
 }
 
 // Numbers that come from outside are wide: a pin of 4,000,000,000 is a legal question, and its answer is refusal 3.
-#[derive(Drop)]
+#[derive(Clone, Copy)]
 pub enum Call {
     Read {
         window: u64,
@@ -50,7 +52,7 @@ pub enum Call {
     },
 }
 
-#[derive(Drop)]
+#[derive(Clone, Copy)]
 pub struct Turn {
     pub board: Board,
     pub answer: Answer,

@@ -13,9 +13,9 @@ use Rattle.board.specs.declared.Turn.{Turn}
 use Rattle.board.specs.Step.{turn_of}
 use Rattle.board.specs.Runs.{run, answers}
 use Rattle.board.proofs.Runs.{run-nil, run-cons, answers-nil, answers-cons}
-use Rattle.log.specs.Calls.{Log, log_of, lines_from, last_line, ending_of}
-use Rattle.log.specs.Replay.{Run, run_of}
-use Rattle.log.proofs.Composed.{composed}
+use Rattle.event_log.specs.Calls.{Log, log_of, lines_from, last_line, ending_of}
+use Rattle.event_log.specs.Replay.{Run, run_of}
+use Rattle.event_log.proofs.Composed.{composed}
 use Rattle.board.proofs.Board.step.Reads as first_step
 use Rattle.plain.proofs.step.Reads as plain_step
 use Rattle.compare.specs.Engines.{Engine, Keeps, run_on, answers_on, replay_on}

@@ -5,8 +5,8 @@ use Rattle.board.specs.declared.Board.{Board}
 use Rattle.board.specs.declared.Call.{Call}
 use Rattle.board.specs.declared.Turn.{Turn}
 use Rattle.board.specs.Step.{turn_of}
-use Rattle.log.specs.Calls.{Log, log_of, lines_from, last_line, ending_of}
-use Rattle.log.specs.Replay.{Run}
+use Rattle.event_log.specs.Calls.{Log, log_of, lines_from, last_line, ending_of}
+use Rattle.event_log.specs.Replay.{Run}
 
 -- an engine makes a turn of a board and a call
 abbrev pub Engine : Type 0

@@ -1,5 +1,7 @@
 // Two engines compared (document 02, K3): two turns of a board are the same where the answers are, and the boards after
 // them, field by field. That both engines make the same turn of any board and call is proofs/Engines.antt.
+#![tactic(auto)]
+
 mod answered;
 mod boards;
 
@@ -11,7 +13,7 @@ use board::Turn;
 use boards::same_boards;
 
 // An answer as numbers: its kind, and its values.
-#[derive(Drop)]
+#[derive(Clone, Copy)]
 pub struct Code {
     pub kind: u64,
     pub a: u64,

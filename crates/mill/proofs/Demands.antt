@@ -16,8 +16,8 @@ use Rattle.answers.proofs.Refused.{answer_number, refused-bare, one-result}
 use Rattle.board.specs.declared.Board.{Board}
 use Rattle.board.specs.declared.Call.{Call}
 use Rattle.board.specs.declared.Call.TheVariants as call
-use Rattle.board.specs.Step.{turn_of as boardTurn}
-use Rattle.board.specs.Runs.{tests_of as boardTests}
+use Rattle.board.specs.Step.{turn_of as board_turn}
+use Rattle.board.specs.Runs.{tests_of as board_tests}
 use Rattle.board.specs.Events.{Event, reset, end, other, is_edge, delivery_of, event_of}
 use Rattle.board.proofs.Formed.{Sized}
 use Rattle.board.proofs.Demands.{decided as board-decided}
@@ -90,9 +90,9 @@ module _ (m : Mill) (z : Sized m.board) where
       go false e = refuses m 5 ts refusal.State refl
 
   -- a call of the board: what the board's own tests decide; refused, it leaves the screen too
-  of-board : Good m → (c : Call) → DecidedTurn m (boardTests m.board c) (by_board m.screen c (boardTurn m.board c))
+  of-board : Good m → (c : Call) → DecidedTurn m (board_tests m.board c) (by_board m.screen c (board_turn m.board c))
   of-board g c =
-      let t = boardTurn m.board c in
+      let t = board_turn m.board c in
       let d = board-decided m.board z c in
       record {
         number = d.number;
@@ -103,14 +103,14 @@ module _ (m : Mill) (z : Sized m.board) where
       }
 
   -- a reset, whatever the mill is
-  reset-decided : (s : Settings) → DecidedTurn m (boardTests m.board (call.Reset s)) (turn_of m (millcall.Board (call.Reset s)))
+  reset-decided : (s : Settings) → DecidedTurn m (board_tests m.board (call.Reset s)) (turn_of m (millcall.Board (call.Reset s)))
   unfolding numbers_of
   reset-decided s = go (in_range s) refl
     where
-      d : answer_number (boardTurn m.board (call.Reset s)).answer ≡ first_number (boardTests m.board (call.Reset s))
+      d : answer_number (board_turn m.board (call.Reset s)).answer ≡ first_number (board_tests m.board (call.Reset s))
       d = (board-decided m.board z (call.Reset s)).number
 
-      go : (x : Bool) → in_range s ≡ x → DecidedTurn m (boardTests m.board (call.Reset s)) (turn_of m (millcall.Board (call.Reset s)))
+      go : (x : Bool) → in_range s ≡ x → DecidedTurn m (board_tests m.board (call.Reset s)) (turn_of m (millcall.Board (call.Reset s)))
       go true e =
           let is = reset-served m s e in
           record {

@@ -12,7 +12,7 @@ use Rattle.answers.specs.declared.Refusal.TheVariants as refusal
 use Rattle.entries.proofs.Formed.{reset-level}
 use Rattle.settings.specs.declared.Settings.{Settings}
 use Rattle.settings.specs.Settings.{in_range}
-use Rattle.board.specs.State.{reset_to as boardReset}
+use Rattle.board.specs.State.{reset_to as board_reset}
 use Rattle.board.specs.Events.{is_edge}
 use Rattle.board.proofs.Keeps.{reset as board-reset}
 use Rattle.mill.specs.declared.MillCall.TheVariants as millcall
@@ -33,7 +33,7 @@ module _ (z : Settings) (e : in_range z ≡ true) (p : ℕ) where
   pub told-formed : well_formed (turn_of (reset_to z) (millcall.Tell p)).mill ≡ true
   told-formed = good-out (turn_of (reset_to z) (millcall.Tell p)).mill (good-keeps (reset_to z) (good-reset-to z e) (millcall.Tell p))
 
-  edge : p < 24 → is_edge (boardReset z) p ≡ true
+  edge : p < 24 → is_edge (board_reset z) p ≡ true
   edge h = ap not (reset-level p h)
 
   pub told-done : p < 24 → turn_of (reset_to z) (millcall.Tell p) ≡ turn (looked_at (reset_to z) p) answer.Done

@@ -13,7 +13,7 @@ use Rattle.board.specs.declared.Call.{Call}
 use Rattle.answers.specs.Numbers.{is_done}
 use Rattle.settings.specs.Settings.{standard}
 use Rattle.settings.proofs.Ranges.{standard-in-range}
-use Rattle.board.specs.Step.{turn_of as boardTurn}
+use Rattle.board.specs.Step.{turn_of as board_turn}
 use Rattle.board.specs.Events.{Event, reset, delivery, end, other, is_edge, is_reset, event_of}
 use Rattle.board.proofs.Formed.{Sized, Formed, formed-in, formed-out}
 use Rattle.board.proofs.Keeps.{keeps as board-keeps, reset as board-reset}
@@ -122,9 +122,9 @@ module _ (m : Mill) (g : Good m) where
       go _ e (takes p v l b) = g
       go _ e (pauses p v l b) = looked-good p l
 
-  shown-good : (c : Call) → Good (by_board m.screen c (boardTurn m.board c)).mill
+  shown-good : (c : Call) → Good (by_board m.screen c (board_turn m.board c)).mill
   shown-good c =
-      let t = boardTurn m.board c in
+      let t = board_turn m.board c in
       record {
         boarded = board-keeps m.board g.boarded c;
         screened = shown-fits (held_of m.board) (held_of t.board) m.screen (event_of c t.answer) g.screened
@@ -133,9 +133,9 @@ module _ (m : Mill) (g : Good m) where
 
   board-good : (c : Call) → Good (served_of m (millcall.Board c)).mill
   unfolding served_of
-  board-good c = go (is_reset c && not (is_done (boardTurn m.board c).answer))
+  board-good c = go (is_reset c && not (is_done (board_turn m.board c).answer))
     where
-      go : (x : Bool) → Good (cond x (turn m (boardTurn m.board c).answer) (by_board m.screen c (boardTurn m.board c))).mill
+      go : (x : Bool) → Good (cond x (turn m (board_turn m.board c).answer) (by_board m.screen c (board_turn m.board c))).mill
       go true = g
       go false = shown-good c
 

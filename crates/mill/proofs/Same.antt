@@ -11,8 +11,8 @@ use Rattle.answers.specs.declared.Refusal.TheVariants as refusal
 use Rattle.board.specs.declared.Board.{Board}
 use Rattle.board.specs.declared.Call.{Call}
 use Rattle.board.specs.declared.Call.TheVariants as call
-use Rattle.board.specs.Step.{turn_of as boardTurn}
-use Rattle.board.specs.Runs.{run as boardRun, answers as boardAnswers}
+use Rattle.board.specs.Step.{turn_of as board_turn}
+use Rattle.board.specs.Runs.{run as board_run, answers as board_answers}
 use Rattle.board.specs.Events.{other, is_edge}
 use Rattle.board.proofs.Leaves.{read-leaves}
 use Rattle.board.proofs.Runs.{run-nil, run-cons, answers-nil, answers-cons}
@@ -29,10 +29,10 @@ use Rattle.mill.proofs.Steps.{shown-rests}
 
 module _ (m : Mill) (g : Good m) where
   -- a call of the board
-  pub board-same : (c : Call) → (turn_of m (millcall.Board c)).mill.board ≡ (boardTurn m.board c).board
+  pub board-same : (c : Call) → (turn_of m (millcall.Board c)).mill.board ≡ (board_turn m.board c).board
   board-same c = ap (λ (t : MillTurn). t.mill.board) (by-board m c (good-out m g))
 
-  pub answer-same : (c : Call) → (turn_of m (millcall.Board c)).answer ≡ (boardTurn m.board c).answer
+  pub answer-same : (c : Call) → (turn_of m (millcall.Board c)).answer ≡ (board_turn m.board c).answer
   answer-same c = ap (λ (t : MillTurn). t.answer) (by-board m c (good-out m g))
 
   -- a read leaves the whole mill
@@ -62,26 +62,26 @@ module _ (m : Mill) (g : Good m) where
       go false = refl
 
 -- any sequence of calls: the board, and the answers to the board's calls
-pub run-same : (cs : List MillCall) (m : Mill) → Good m → (run m cs).board ≡ boardRun m.board (board_calls cs)
+pub run-same : (cs : List MillCall) (m : Mill) → Good m → (run m cs).board ≡ board_run m.board (board_calls cs)
 unfolding run board_calls
 run-same [] m g = sym (run-nil m.board)
 run-same (millcall.Board c ∷ cs) m g =
     run-same cs (turn_of m (millcall.Board c)).mill (good-keeps m g (millcall.Board c))
-    ∙ ap (λ (b : Board). boardRun b (board_calls cs)) (board-same m g c) ∙ sym (run-cons m.board c (board_calls cs))
+    ∙ ap (λ (b : Board). board_run b (board_calls cs)) (board-same m g c) ∙ sym (run-cons m.board c (board_calls cs))
 run-same (millcall.Tell p ∷ cs) m g =
-    run-same cs (turn_of m (millcall.Tell p)).mill (good-keeps m g (millcall.Tell p)) ∙ ap (λ (b : Board). boardRun b (board_calls cs)) (tell-leaves m g p)
+    run-same cs (turn_of m (millcall.Tell p)).mill (good-keeps m g (millcall.Tell p)) ∙ ap (λ (b : Board). board_run b (board_calls cs)) (tell-leaves m g p)
 run-same (millcall.Resume ∷ cs) m g =
-    run-same cs (turn_of m millcall.Resume).mill (good-keeps m g millcall.Resume) ∙ ap (λ (b : Board). boardRun b (board_calls cs)) (resume-leaves m g)
+    run-same cs (turn_of m millcall.Resume).mill (good-keeps m g millcall.Resume) ∙ ap (λ (b : Board). board_run b (board_calls cs)) (resume-leaves m g)
 
-pub answers-same : (cs : List MillCall) (m : Mill) → Good m → board_answers_of m cs ≡ boardAnswers m.board (board_calls cs)
+pub answers-same : (cs : List MillCall) (m : Mill) → Good m → board_answers_of m cs ≡ board_answers m.board (board_calls cs)
 unfolding board_answers_of board_calls
 answers-same [] m g = sym (answers-nil m.board)
 answers-same (millcall.Board c ∷ cs) m g =
     ap (λ (l : List Answer). (turn_of m (millcall.Board c)).answer ∷ l)
-    (answers-same cs (turn_of m (millcall.Board c)).mill (good-keeps m g (millcall.Board c)) ∙ ap (λ (b : Board). boardAnswers b (board_calls cs)) (board-same m g c))
-    ∙ ap (λ (a : Answer). a ∷ boardAnswers (boardTurn m.board c).board (board_calls cs)) (answer-same m g c)
+    (answers-same cs (turn_of m (millcall.Board c)).mill (good-keeps m g (millcall.Board c)) ∙ ap (λ (b : Board). board_answers b (board_calls cs)) (board-same m g c))
+    ∙ ap (λ (a : Answer). a ∷ board_answers (board_turn m.board c).board (board_calls cs)) (answer-same m g c)
     ∙ sym (answers-cons m.board c (board_calls cs))
 answers-same (millcall.Tell p ∷ cs) m g =
-    answers-same cs (turn_of m (millcall.Tell p)).mill (good-keeps m g (millcall.Tell p)) ∙ ap (λ (b : Board). boardAnswers b (board_calls cs)) (tell-leaves m g p)
+    answers-same cs (turn_of m (millcall.Tell p)).mill (good-keeps m g (millcall.Tell p)) ∙ ap (λ (b : Board). board_answers b (board_calls cs)) (tell-leaves m g p)
 answers-same (millcall.Resume ∷ cs) m g =
-    answers-same cs (turn_of m millcall.Resume).mill (good-keeps m g millcall.Resume) ∙ ap (λ (b : Board). boardAnswers b (board_calls cs)) (resume-leaves m g)
+    answers-same cs (turn_of m millcall.Resume).mill (good-keeps m g millcall.Resume) ∙ ap (λ (b : Board). board_answers b (board_calls cs)) (resume-leaves m g)

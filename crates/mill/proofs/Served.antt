@@ -11,7 +11,7 @@ use Rattle.board.specs.declared.Call.{Call}
 use Rattle.board.specs.declared.Call.TheVariants as call
 use Rattle.board.specs.declared.Turn.{Turn}
 use Rattle.board.specs.Step.{formed}
-use Rattle.board.specs.Step.{turn_of as boardTurn, served_of as boardServed}
+use Rattle.board.specs.Step.{turn_of as board_turn, served_of as board_served}
 use Rattle.board.specs.Events.{Event, other, delivery, delivery_of, is_reset, event_of}
 use Rattle.board.proofs.Keeps.{served}
 use Rattle.board.proofs.Leaves.{read-leaves}
@@ -58,7 +58,7 @@ module _ (m : Mill) where
   well-served c e = turn-served c (formed-taken c e)
 
   -- a call of the board on a well-formed mill is the board's own, and the screen after it
-  pub by-board : (c : Call) → well_formed m ≡ true → turn_of m (millcall.Board c) ≡ by_board m.screen c (boardTurn m.board c)
+  pub by-board : (c : Call) → well_formed m ≡ true → turn_of m (millcall.Board c) ≡ by_board m.screen c (board_turn m.board c)
   unfolding served_of
   by-board (call.Read window width offset) e = well-served (millcall.Board (call.Read window width offset)) e
   by-board (call.Write window width offset value) e = well-served (millcall.Board (call.Write window width offset value)) e
@@ -69,7 +69,7 @@ module _ (m : Mill) where
   by-board (call.Reset z) e = well-served (millcall.Board (call.Reset z)) e ∙ go (in_range z) refl
     where
       t : Turn
-      t = boardTurn m.board (call.Reset z)
+      t = board_turn m.board (call.Reset z)
 
       -- a reset that is refused leaves a fitting screen by the rule for the board's calls too
       go : (x : Bool) → in_range z ≡ x → rejected m (call.Reset z) t (by_board m.screen (call.Reset z) t) ≡ by_board m.screen (call.Reset z) t
@@ -83,7 +83,7 @@ module _ (m : Mill) where
           ∙ ap (by_board m.screen (call.Reset z)) (sym is)
 
   -- what the code gives: the board's turn by what its call does, and the event that the call is
-  pub by-served : (c : Call) (t : Turn) (e : Event) → well_formed m ≡ true → t ≡ boardServed m.board c → e ≡ event_of c t.answer → by_event m.screen t e ≡ turn_of m (millcall.Board c)
+  pub by-served : (c : Call) (t : Turn) (e : Event) → well_formed m ≡ true → t ≡ board_served m.board c → e ≡ event_of c t.answer → by_event m.screen t e ≡ turn_of m (millcall.Board c)
   by-served c t e w is event =
       ap (by_event m.screen t) event
       ∙ ap (by_board m.screen c) (is ∙ sym (served m.board c (board-formed w)))
@@ -91,7 +91,7 @@ module _ (m : Mill) where
 
   -- a read leaves the board, and a fitting screen then rests
   pub read-served :
-      (window width offset : ℕ) (t : Turn) → well_formed m ≡ true → t ≡ boardServed m.board (call.Read window width offset) →
+      (window width offset : ℕ) (t : Turn) → well_formed m ≡ true → t ≡ board_served m.board (call.Read window width offset) →
       turn m t.answer ≡ turn_of m (millcall.Board (call.Read window width offset))
   read-served window width offset t w is =
       ap (λ (u : Turn). turn m u.answer) (is ∙ sym (served m.board c (board-formed w)))
@@ -102,7 +102,7 @@ module _ (m : Mill) where
       c = call.Read window width offset
 
       after : Turn
-      after = boardTurn m.board c
+      after = board_turn m.board c
 
       rested : mill after.board (shown_after m.screen (held_of after.board) other) ≡ m
       rested =

@@ -6,11 +6,10 @@ use mathlib.Core.Bool.{Bool, true, false, ◌&&◌, ◌||◌}
 use mathlib.Core.List.{List, [], ◌∷◌, ◌++◌, append_assoc, append-nil}
 use lib.Dec.{eqb}
 use Rattle.pins.proofs.Bools.{clash}
-use Rattle.answers.specs.declared.Answer.TheVariants as answer
 use Rattle.answers.specs.Numbers.{is_done}
 use Rattle.board.specs.declared.Call.{Call}
 use Rattle.board.specs.declared.Call.TheVariants as call
-use Rattle.board.specs.Step.{turn_of as boardTurn}
+use Rattle.board.specs.Step.{turn_of as board_turn}
 use Rattle.board.specs.Events.{Event, reset, delivery, end, other, is_reset, event_of}
 use Rattle.mill.specs.declared.Screen.{Screen}
 use Rattle.settings.specs.declared.Settings.{Settings}
@@ -124,7 +123,7 @@ module _ (cs : List MillCall) where
   blank-board : here.screen ≡ blank → (c : Call) → (next here (millcall.Board c)).screen ≡ blank
   unfolding shown_after
   blank-board e c =
-      let t = boardTurn here.board c in
+      let t = board_turn here.board c in
       ap (λ (u : MillTurn). u.mill.screen) (by-board here c (good-out here good))
       ∙ ap (λ (s : Screen). shown_after s (held_of t.board) (event_of c t.answer)) e
       ∙ go (held_of t.board) (event_of c t.answer)
@@ -156,7 +155,7 @@ module _ (cs : List MillCall) where
       where
         go : (x : Bool) → resets here (millcall.Board c) ≡ x → History (cs ++ millcall.Board c ∷ [])
         go true e =
-            let b = boardTurn here.board c in
+            let b = board_turn here.board c in
             let is = by-board here c (good-out here good) in
             unpinned (after_is (millcall.Board c) blank
             (ap (λ (u : MillTurn). u.mill.screen) is

@@ -12,7 +12,7 @@ use Rattle.answers.specs.declared.Refusal.TheVariants as refusal
 use Rattle.answers.specs.Numbers.{is_done}
 use Rattle.board.specs.declared.Call.{Call}
 use Rattle.board.specs.declared.Call.TheVariants as call
-use Rattle.board.specs.Step.{turn_of as boardTurn}
+use Rattle.board.specs.Step.{turn_of as board_turn}
 use Rattle.board.specs.Events.{Event, reset, delivery, end, other, holds, is_edge, is_reset, delivery_of, event_of}
 use Rattle.mill.specs.declared.Screen.{Screen}
 use Rattle.mill.specs.declared.Mill.{Mill}
@@ -22,7 +22,6 @@ use Rattle.mill.specs.declared.MillTurn.{MillTurn}
 use Rattle.mill.specs.Screen.{blank, is_told, holds_in, moved_of, shown_after}
 use Rattle.mill.specs.Mill.{held_of, turn, refused, looked_at, telling_of, is_paused, resuming_of, turn_of}
 use Rattle.mill.specs.Story.{next, done, did, tells, resumes, resets}
-use Rattle.mill.proofs.Fits.{screen}
 use Rattle.mill.proofs.Rests.{rests, fitting-rests}
 use Rattle.mill.proofs.Served.{by-board, tell-served, resume-served}
 use Rattle.mill.proofs.Keeps.{Good, good-out}
@@ -122,7 +121,7 @@ module _ (m : Mill) (g : Good m) (t : is_told m.screen ≡ true) where
   board-moves : (c : Call) → resets m (millcall.Board c) ≡ false → Moves (millcall.Board c)
   board-moves c n =
       let is = by-board m c (good-out m g) in
-      let b = boardTurn m.board c in
+      let b = board_turn m.board c in
       subst (λ (u : MillTurn). u.mill.screen ≡ moved_of m.screen (holds u.mill.board m.screen.pin) (event_of c u.answer)) (sym is)
       (shown-moved m.screen (held_of b.board) (event_of c b.answer)
       (reset-event c b.answer ∙ ap (λ (u : MillTurn). is_reset c && is_done u.answer) (sym is) ∙ n) t)

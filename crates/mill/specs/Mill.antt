@@ -11,9 +11,9 @@ use Rattle.board.specs.declared.Turn.{Turn}
 use Rattle.answers.specs.Numbers.{is_done}
 use Rattle.settings.specs.declared.Settings.{Settings}
 use Rattle.settings.specs.Settings.{standard}
-use Rattle.board.specs.State.{reset_to as boardReset}
+use Rattle.board.specs.State.{reset_to as board_reset}
 use Rattle.board.specs.Step.{formed}
-use Rattle.board.specs.Step.{turn_of as boardTurn}
+use Rattle.board.specs.Step.{turn_of as board_turn}
 use Rattle.board.specs.Events.{Event, holds, is_edge, is_reset, event_of}
 use Rattle.mill.specs.declared.Screen.{Screen}
 use Rattle.mill.specs.declared.Mill.{Mill}
@@ -26,7 +26,7 @@ abbrev pub mill : Board → Screen → Mill
 mill b s = record { board = b; screen = s }
 
 abbrev pub reset_to : Settings → Mill
-reset_to z = mill (boardReset z) blank
+reset_to z = mill (board_reset z) blank
 
 -- without settings: as in document 01
 abbrev pub reset_mill : Mill
@@ -77,7 +77,7 @@ rejected m c t done = cond (is_reset c && not (is_done t.answer)) (turn m t.answ
 
 -- what a call does to a mill that it takes
 unfoldable pub served_of : Mill → MillCall → MillTurn
-served_of m (millcall.Board c) = let t = boardTurn m.board c in rejected m c t (by_board m.screen c t)
+served_of m (millcall.Board c) = let t = board_turn m.board c in rejected m c t (by_board m.screen c t)
 served_of m (millcall.Tell pin) = telling_of m pin
 served_of m millcall.Resume = resuming_of m
 

@@ -3,7 +3,7 @@ use Rattle.std.specs.Prelude.{cond, not, List, [], ◌∷◌, ◌++◌, ltb}
 use Rattle.answers.specs.declared.Answer.{Answer}
 use Rattle.answers.specs.Order.{Test, test}
 use Rattle.board.specs.declared.Call.{Call}
-use Rattle.board.specs.Runs.{tests_of as boardTests}
+use Rattle.board.specs.Runs.{tests_of as board_tests}
 use Rattle.board.specs.Events.{is_edge, is_reset}
 use Rattle.mill.specs.declared.Mill.{Mill}
 use Rattle.mill.specs.declared.MillCall.{MillCall}
@@ -36,6 +36,6 @@ formed_test m = test 5 (not (well_formed m))
 -- refusal 5 first; a call of the board then tests what the board does; a telling tests 3, then 14; a reset tests what
 -- the board's does, 10
 unfoldable pub tests_of : Mill → MillCall → List Test
-tests_of m (millcall.Board c) = cond (is_reset c) [] (formed_test m ∷ []) ++ boardTests m.board c
+tests_of m (millcall.Board c) = cond (is_reset c) [] (formed_test m ∷ []) ++ board_tests m.board c
 tests_of m (millcall.Tell pin) = formed_test m ∷ test 3 (not (ltb pin 24)) ∷ test 14 (not (is_edge m.board pin)) ∷ []
 tests_of m millcall.Resume = formed_test m ∷ []

@@ -1,16 +1,15 @@
 -- The pause screen by example, from reset: each call beside its answer and the word after it. One table, one statement.
 use Rattle.std.specs.Prelude.{ℕ, ◌≡◌, refl, List, [], ◌∷◌, ◌++◌, map}
 use Rattle.answers.specs.declared.Answer.{Answer}
-use Rattle.answers.specs.declared.Answer.TheVariants as answer
 use Rattle.answers.specs.declared.Refusal.TheVariants as refusal
 use Rattle.answers.specs.Numbers.{number_of}
 use Rattle.answers.specs.Sheet.{ok, pin, none, fired, refused}
 use Rattle.pins.specs.Pins.{tab, first_from, all_from}
 use Rattle.entries.specs.Word.{mode_of, remote_of, level_of, masked_of, with_remote, without_remote, writable, written, shown, word_ok}
 use Rattle.entries.specs.Pin.{asserted, makes_edge, held_after, eligible, ended_word, pin_ok}
-use Rattle.entries.specs.Table.{entries_ok, levels_ok, first_eligible, wired, pulsed, ended, taken as takenFrom, low_shown, low_written}
-use Rattle.controller.specs.State.{well_formed as controllerFormed}
-use Rattle.controller.specs.Window.{data_read, data_written, reading_of as controllerReading, writing_of as controllerWriting}
+use Rattle.entries.specs.Table.{entries_ok, levels_ok, first_eligible, wired, pulsed, ended, taken as taken_from, low_shown, low_written}
+use Rattle.controller.specs.State.{well_formed as controller_formed}
+use Rattle.controller.specs.Window.{data_read, data_written, reading_of as controller_reading, writing_of as controller_writing}
 use Rattle.controller.specs.Steps.{delivering_of}
 use Rattle.settings.specs.declared.Settings.{Settings}
 use Rattle.settings.specs.Settings.{vendor_ok, period_ok, mask_ok, id_ok, in_range}
@@ -19,17 +18,17 @@ use Rattle.timer.specs.State.{reset_timer}
 use Rattle.timer.specs.Registers.{configuration_of, configured_of, set_of, cleared_of}
 use Rattle.timer.specs.Tick.{meets, firing, pulsing, driving}
 use Rattle.timer.specs.Formed.{flags_fit, narrow_fits, timer_formed}
-use Rattle.timers.specs.State.{reset_to as timersReset}
-use Rattle.timers.specs.Formed.{settings_fit, well_formed as timersFormed}
+use Rattle.timers.specs.State.{reset_to as timers_reset}
+use Rattle.timers.specs.Formed.{settings_fit, well_formed as timers_formed}
 use Rattle.timers.specs.Registers.{capabilities_of, status_of, timer_register, register_of, timer_written, written_of, shown_of, stored_of}
 use Rattle.timers.specs.Tick.{counted_of, matches_of, fired_of, drives_of, pulses_of, route_of}
-use Rattle.timers.specs.Call.{reading_of as timersReading, writing_of as timersWriting}
+use Rattle.timers.specs.Call.{reading_of as timers_reading, writing_of as timers_writing}
 use Rattle.board.specs.declared.Call.{Call}
 use Rattle.board.specs.declared.Call.TheVariants as call
 use Rattle.board.specs.Wires.{high_at, wires_of, joined}
 use Rattle.board.specs.Tick.{effect, turned, up_to, tick, fires_in, ticks, firings}
-use Rattle.board.specs.Formed.{well_formed as boardFormed}
-use Rattle.board.specs.Step.{plain_reset, reading_of, writing_of, wiring_of, ending_of, advancing_of, delivering_on_board, resetting_of, served_of as boardServed, turn_of as boardTurn}
+use Rattle.board.specs.Formed.{well_formed as board_formed}
+use Rattle.board.specs.Step.{plain_reset, reading_of, writing_of, wiring_of, ending_of, advancing_of, delivering_on_board, resetting_of, served_of as board_served, turn_of as board_turn}
 use Rattle.board.specs.Accesses.{select, put, low_word, set}
 use Rattle.mill.specs.declared.Mill.{Mill}
 use Rattle.mill.specs.declared.MillCall.{MillCall}
@@ -138,5 +137,5 @@ sheet =
 
 -- the statement computes, so it opens every definition down to the ground
 pub shows : map (λ (l : List Said). shown_along reset_mill (map (λ (s : Said). s.call) l)) sheet ≡ map (λ (l : List Said). map (λ (s : Said). s.shown) l) sheet
-unfolding sheet shown_along tab first_from all_from mode_of remote_of level_of masked_of with_remote without_remote writable written shown word_ok asserted makes_edge held_after eligible ended_word pin_ok entries_ok levels_ok first_eligible wired pulsed ended takenFrom low_shown low_written controllerFormed data_read data_written controllerReading controllerWriting delivering_of reset_timer configuration_of configured_of set_of cleared_of meets firing pulsing driving flags_fit narrow_fits timer_formed lowest in_mask vendor_ok period_ok mask_ok in_range id_ok timersReset settings_fit timersFormed capabilities_of status_of timer_register register_of timer_written written_of shown_of stored_of counted_of matches_of fired_of drives_of pulses_of route_of timersReading timersWriting high_at wires_of joined effect turned up_to tick fires_in ticks firings boardFormed reading_of writing_of wiring_of ending_of advancing_of delivering_on_board resetting_of boardServed boardTurn looked_of moved_of shown_after fits well_formed telling_of resuming_of served_of turn_of
+unfolding sheet shown_along tab first_from all_from mode_of remote_of level_of masked_of with_remote without_remote writable written shown word_ok asserted makes_edge held_after eligible ended_word pin_ok entries_ok levels_ok first_eligible wired pulsed ended taken_from low_shown low_written controller_formed data_read data_written controller_reading controller_writing delivering_of reset_timer configuration_of configured_of set_of cleared_of meets firing pulsing driving flags_fit narrow_fits timer_formed lowest in_mask vendor_ok period_ok mask_ok in_range id_ok timers_reset settings_fit timers_formed capabilities_of status_of timer_register register_of timer_written written_of shown_of stored_of counted_of matches_of fired_of drives_of pulses_of route_of timers_reading timers_writing high_at wires_of joined effect turned up_to tick fires_in ticks firings board_formed reading_of writing_of wiring_of ending_of advancing_of delivering_on_board resetting_of board_served board_turn looked_of moved_of shown_after fits well_formed telling_of resuming_of served_of turn_of
 shows = refl

@@ -1,5 +1,7 @@
 // The mill: a board with its pause screen (document 02, K2). The screen is told which pin is the pause key, and says
 // paused only once the motion program has taken the pause and ended its interrupt.
+#![tactic(auto)]
+
 mod calls;
 mod telling;
 mod words;
@@ -9,7 +11,7 @@ use board::{Board, Call};
 
 // The screen as plain numbers, 8 bytes, none of them padding.
 #[repr(C)]
-#[derive(Drop)]
+#[derive(Clone, Copy)]
 pub struct Screen {
     // 1 once a pin is told; 0 before that, and after a board reset
     pub told: u16,
@@ -23,21 +25,21 @@ pub struct Screen {
 
 // By value, 312 bytes, none of them padding.
 #[repr(C)]
-#[derive(Drop)]
+#[derive(Clone, Copy)]
 pub struct Mill {
     pub board: Board,
     pub screen: Screen,
 }
 
 // Everything that can be done to a mill: a call of its board, telling it its pause pin, resuming.
-#[derive(Drop)]
+#[derive(Clone, Copy)]
 pub enum MillCall {
     Board { call: Call },
     Tell { pin: u64 },
     Resume,
 }
 
-#[derive(Drop)]
+#[derive(Clone, Copy)]
 pub struct MillTurn {
     pub mill: Mill,
     pub answer: Answer,

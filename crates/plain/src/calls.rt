@@ -2,12 +2,12 @@
 ghost use Rattle.std.specs.Prelude.{◌≡◌};
 ghost use Rattle.board.specs.declared.Call.TheVariants as call;
 ghost use Rattle.settings.specs.Settings.{in_range};
-ghost use Rattle.controller.specs.Window.{reading_of as controllerReading, writing_of as controllerWriting};
-ghost use Rattle.timers.specs.Call.{reading_of as timersReading, writing_of as timersWriting};
+ghost use Rattle.controller.specs.Window.{reading_of as controller_reading, writing_of as controller_writing};
+ghost use Rattle.timers.specs.Call.{reading_of as timers_reading, writing_of as timers_writing};
 ghost use Rattle.board.specs.State.{reset_to, turn};
-ghost use Rattle.board.specs.State.{refused as refusedTurn};
+ghost use Rattle.board.specs.State.{refused as refused_turn};
 ghost use Rattle.board.specs.Step.{by_controller, by_timers};
-ghost use Rattle.board.specs.Step.{takes as takenBy};
+ghost use Rattle.board.specs.Step.{takes as taken_by};
 ghost use Rattle.board.specs.Step.{reading_of, writing_of, wiring_of, ending_of, delivering_on_board, resetting_of, served_of, turn_of};
 
 use crate::formed::well_formed;
@@ -19,7 +19,7 @@ use settings::Settings;
 
 // A refusal is the answer, and the board stays: "same state".
 fn refused(b: Board, refusal: Refusal) -> Turn
-    ensures { result ≡ refusedTurn b refusal }
+    ensures { result ≡ refused_turn b refusal }
 {
     Turn {
         board: b,
@@ -40,7 +40,7 @@ fn reading(b: Board, window: u64, width: u64, offset: u64) -> Turn
 
 // A read in window 0: the controller answers.
 fn controller_reading(b: Board, width: u64, offset: u64) -> Turn
-    ensures { result ≡ by_controller b (controllerReading b.controller width offset) }
+    ensures { result ≡ by_controller b (controller_reading b.controller width offset) }
 {
     let c = b.controller;
     let t = plain_controller::reading(c, width, offset);
@@ -56,7 +56,7 @@ fn controller_reading(b: Board, width: u64, offset: u64) -> Turn
 
 // A read in window 1: the timer block answers, and the board stays as it was.
 fn timers_reading(b: Board, width: u64, offset: u64) -> Turn
-    ensures { result ≡ turn b (timersReading b.timers width offset).answer }
+    ensures { result ≡ turn b (timers_reading b.timers width offset).answer }
 {
     let s = b.timers;
     let t = plain_timers::reading(s, width, offset);
@@ -77,7 +77,7 @@ fn writing(b: Board, window: u64, width: u64, offset: u64, value: u64) -> Turn
 
 // A write in window 0. A controller register moves no wire.
 fn controller_writing(b: Board, width: u64, offset: u64, value: u64) -> Turn
-    ensures { result ≡ by_controller b (controllerWriting b.controller width offset value) }
+    ensures { result ≡ by_controller b (controller_writing b.controller width offset value) }
 {
     let c = b.controller;
     let t = plain_controller::writing(c, width, offset, value);
@@ -94,7 +94,7 @@ fn controller_writing(b: Board, width: u64, offset: u64, value: u64) -> Turn
 // A write in window 1. A timer register may move a wire, and one of the "Mistakes we have made already" is "Letting a
 // register write that changes a level timer's wire pass without an edge."
 fn timers_writing(b: Board, width: u64, offset: u64, value: u64) -> Turn
-    ensures { result ≡ by_timers b (timersWriting b.timers width offset value) }
+    ensures { result ≡ by_timers b (timers_writing b.timers width offset value) }
 {
     let s = b.timers;
     let c = b.controller;
@@ -221,7 +221,7 @@ fn served(b: Board, call: Call) -> Turn
 
 // 5 is given at a "state not well formed" by every call but a reset, which takes any board.
 fn takes(b: Board, call: Call) -> bool
-    ensures { result ≡ takenBy b call }
+    ensures { result ≡ taken_by b call }
 {
     match call {
         Call::Read {

@@ -2,6 +2,8 @@
 // the other, and does every other call in the most obvious way. It takes and gives the same Board, Call and Turn as the
 // first engine, and calls none of its functions. Both promise the same, `turn_of`, so they are equal: crate compare says
 // so.
+#![tactic(auto)]
+
 mod calls;
 mod formed;
 mod tick;

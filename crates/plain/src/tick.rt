@@ -3,7 +3,7 @@
 ghost use Rattle.std.specs.Prelude.{◌≡◌, ◌<◌, slice_set};
 ghost use Rattle.timers.specs.Tick.{matches_of, fired_of};
 ghost use Rattle.board.specs.Tick.{pulsed_at};
-ghost use Rattle.board.specs.Tick.{fire as fireOf};
+ghost use Rattle.board.specs.Tick.{fire as fire_of};
 ghost use Rattle.board.specs.Step.{advancing_of};
 
 use crate::wires::wires;
@@ -49,7 +49,7 @@ fn fired(s: Timers, m: usize) -> Timers
 // "Then timers 0, 1, 2 in turn, each firing a step of its own: …": the firing of timer m.
 fn fire(b: Board, m: usize) -> Board
     requires { m < 3 }
-    ensures { result ≡ fireOf m b }
+    ensures { result ≡ fire_of m b }
 {
     let c = b.controller;
     let outside = b.outside;

@@ -1,7 +1,7 @@
 // The wires between timers and pins.
 ghost use Rattle.std.specs.Prelude.{◌≡◌};
 ghost use Rattle.board.specs.Wires.{wires_of};
-ghost use Rattle.board.specs.Wires.{joined as joinedOf};
+ghost use Rattle.board.specs.Wires.{joined as joined_of};
 
 use board::Board;
 use controller::Controller;
@@ -31,7 +31,7 @@ pub(crate) fn wires(outside: [u8; 24], timers: Timers) -> [u8; 24]
 
 // A step that changed the timers or the outside wires: the wires are worked out anew, and edges are held.
 pub(crate) fn joined(c: Controller, timers: Timers, outside: [u8; 24]) -> Board
-    ensures { result ≡ joinedOf c timers outside }
+    ensures { result ≡ joined_of c timers outside }
 {
     Board {
         timers,

@@ -1,7 +1,7 @@
 // "Delivery step" and "End of interrupt".
 ghost use Rattle.std.specs.Prelude.{◌≡◌, ◌<◌};
 ghost use Rattle.entries.specs.Table.{first_eligible, given, taken};
-ghost use Rattle.entries.specs.Table.{ended as endedEntries};
+ghost use Rattle.entries.specs.Table.{ended as ended_entries};
 ghost use Rattle.controller.specs.Steps.{after_end, delivering_of};
 
 use crate::pin::{eligible, ended_word};
@@ -74,7 +74,7 @@ pub fn delivering(c: Controller) -> Turn
 
 // "End of interrupt with vector v: …", at each entry.
 fn ended_entries(e: Entries, v: u8) -> Entries
-    ensures { result ≡ endedEntries e v }
+    ensures { result ≡ ended_entries e v }
 {
     let mut next = e;
     let mut i: usize = 0;

@@ -1,5 +1,7 @@
 // The plain engine's interrupt controller (document 02, K3): "Controller registers" of document 01, in the most obvious
 // way. It calls no function of the first engine. The types, and the definitions in the promises, are the same.
+#![tactic(auto)]
+
 mod delivery;
 mod formed;
 mod pin;

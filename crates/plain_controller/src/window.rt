@@ -4,7 +4,7 @@ ghost use Rattle.std.specs.Prelude.{◌≡◌, ◌<◌, ◌/◌, ◌%◌, ◌^�
 ghost use Rattle.answers.specs.declared.Answer.TheVariants as answer;
 ghost use Rattle.entries.specs.Table.{low_shown, high_shown, low_written, high_written};
 ghost use Rattle.controller.specs.State.{reset_to, with_id, with_index, turn};
-ghost use Rattle.controller.specs.State.{refused as refusedTurn};
+ghost use Rattle.controller.specs.State.{refused as refused_turn};
 ghost use Rattle.controller.specs.Window.{id_shown, entry_read, data_read, entry_written, data_written, reading_of, writing_of};
 
 use crate::pin::eligible;
@@ -51,7 +51,7 @@ fn valued(c: Controller, value: u32) -> Turn
 
 // A refusal is the answer, and the controller stays: "same state".
 fn refused(c: Controller, refusal: Refusal) -> Turn
-    ensures { result ≡ refusedTurn c refusal }
+    ensures { result ≡ refused_turn c refusal }
 {
     Turn {
         controller: c,
@@ -101,6 +101,7 @@ fn id_shown(c: Controller) -> u32
 }
 
 // The register that the index names. "Other indexes read 0."
+#[tactic(auto, unfolding(controller::specs::Window::data_read))]
 fn data_read(c: Controller) -> u32
     ensures { result ≡ data_read c }
 {
@@ -115,6 +116,7 @@ fn data_read(c: Controller) -> u32
 }
 
 // "An access then tests … 2, 1 for the offset, …": "Width 4 only; …", and "Any other offset: 1."
+#[tactic(auto, unfolding(controller::specs::Window::reading_of))]
 pub fn reading(c: Controller, width: u64, offset: u64) -> Turn
     ensures { result ≡ reading_of c width offset }
 {
@@ -183,6 +185,7 @@ fn id_written(c: Controller, value: u32) -> Controller
 
 // The register that the index names. "Other indexes read 0. Writes to them and to read-only bits answer 0 and change
 // nothing."
+#[tactic(auto, unfolding(controller::specs::Window::data_written))]
 fn data_written(c: Controller, value: u32) -> Controller
     ensures { result ≡ data_written c value }
 {

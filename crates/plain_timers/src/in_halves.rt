@@ -1,7 +1,7 @@
 // "Timer registers in halves" (document 02, K1).
 ghost use Rattle.std.specs.Prelude.{◌≡◌, ◌^◌, ◌<◌, ◌≢◌};
 ghost use Rattle.timer.specs.Halves.{half_of};
-ghost use Rattle.timer.specs.Halves.{replaced as replacedIn};
+ghost use Rattle.timer.specs.Halves.{replaced as replaced_in};
 ghost use Rattle.timer.specs.Registers.{half_compared_of};
 ghost use Rattle.timers.specs.Registers.{half_at, half_written, shown_of, stored_of};
 
@@ -32,7 +32,7 @@ fn half_of(half: Half, x: u64) -> u64
 
 // "A half write replaces that half …": x with one half replaced.
 fn replaced(half: Half, x: u64, value: u32) -> u64
-    ensures { result ≡ replacedIn half x value }
+    ensures { result ≡ replaced_in half x value }
 {
     match half {
         Half::Low => x / 4294967296 * 4294967296 + value as u64,

@@ -1,6 +1,8 @@
 // The plain engine's timer block (document 02, K3): "Timer registers" and a timer's part of "One tick" of document 01,
 // and registers in halves (K1), in the most obvious way. It calls no function of the first engine. The types, and the
 // definitions in the promises, are the same.
+#![tactic(auto)]
+
 mod formed;
 mod in_halves;
 mod mask;

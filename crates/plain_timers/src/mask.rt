@@ -1,7 +1,7 @@
 // A timer's route mask (document 02, K6): pin n is in it where bit n is 1.
 ghost use Rattle.std.specs.Prelude.{◌≡◌};
 ghost use Rattle.timer.specs.Mask.{in_mask};
-ghost use Rattle.timer.specs.Mask.{lowest as lowestOf};
+ghost use Rattle.timer.specs.Mask.{lowest as lowest_of};
 
 // The pin's bit is brought down, one place at a time.
 pub(crate) fn has(mask: u32, pin: u16) -> bool
@@ -18,7 +18,7 @@ pub(crate) fn has(mask: u32, pin: u16) -> bool
 
 // "… its mask's lowest pin, …": each is tried in turn, and 24 is none.
 pub(crate) fn lowest(mask: u32) -> u16
-    ensures { result ≡ lowestOf mask }
+    ensures { result ≡ lowest_of mask }
 {
     let mut pin: u16 = 0;
     while pin < 24 {

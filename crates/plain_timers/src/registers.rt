@@ -3,7 +3,7 @@ ghost use Rattle.std.specs.Prelude.{◌≡◌, ◌/◌, ◌%◌, ◌^◌, ◌≤
 ghost use mir.Val.{bool_byte};
 ghost use Rattle.timer.specs.Mask.{in_mask};
 ghost use Rattle.timer.specs.State.{flag};
-ghost use Rattle.timer.specs.State.{reduced as reducedTo};
+ghost use Rattle.timer.specs.State.{reduced as reduced_to};
 ghost use Rattle.timer.specs.Registers.{configuration_of, configured_of, set_of, compared_of, cleared_of};
 
 use crate::mask::has;
@@ -32,7 +32,7 @@ pub(crate) fn configuration(mask: u32, t: Timer) -> u64
 
 // x, in 32-bit mode modulo 2^32.
 fn reduced(narrow: bool, x: u64) -> u64
-    ensures { result ≡ reducedTo narrow x }
+    ensures { result ≡ reduced_to narrow x }
 {
     if narrow { x % 4294967296 } else { x }
 }

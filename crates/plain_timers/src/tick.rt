@@ -2,7 +2,7 @@
 ghost use Rattle.std.specs.Prelude.{◌≡◌, ◌+◌, ◌%◌, ◌^◌, ◌&&◌, if◌then◌else◌};
 ghost use Rattle.timer.specs.State.{flag, width, narrowed};
 ghost use Rattle.timer.specs.Inner.{holding};
-ghost use Rattle.timer.specs.Tick.{meets as meetsAt, firing, pulsing};
+ghost use Rattle.timer.specs.Tick.{meets as meets_at, firing, pulsing};
 ghost use Rattle.timers.specs.State.{is_enabled};
 
 use timer::Timer;
@@ -10,7 +10,7 @@ use timers::Timers;
 
 // "… a timer fires if counter and comparator are equal (in 32-bit mode, modulo 2^32)."
 pub fn meets(counter: u64, t: Timer) -> bool
-    ensures { result ≡ meetsAt counter t }
+    ensures { result ≡ meets_at counter t }
 {
     if t.narrow == 1 {
         return counter % 4294967296 == t.comparator % 4294967296;

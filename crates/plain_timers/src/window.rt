@@ -5,9 +5,9 @@ ghost use Rattle.timer.specs.Registers.{bit};
 ghost use Rattle.timers.specs.State.{is_enabled, with_counter, with_enabled, with_timers, reset_to};
 ghost use Rattle.timers.specs.State.{with_timer as replacing};
 ghost use Rattle.timers.specs.Registers.{cleared_by, capabilities_of, status_of, register_of, written_of};
-ghost use Rattle.timers.specs.Registers.{aligned as alignedTo};
+ghost use Rattle.timers.specs.Registers.{aligned as aligned_to};
 ghost use Rattle.timers.specs.Call.{reading_of, writing_of};
-ghost use Rattle.timers.specs.Call.{refused as refusedTurn};
+ghost use Rattle.timers.specs.Call.{refused as refused_turn};
 
 use crate::in_halves::{shown, stored};
 use crate::mask::lowest;
@@ -164,7 +164,7 @@ pub(crate) fn register_written(s: Timers, offset: u64, value: u64) -> Timers
 
 // A refusal is the answer, and the timers stay: "same state".
 fn refused(s: Timers, refusal: Refusal) -> Turn
-    ensures { result ≡ refusedTurn s refusal }
+    ensures { result ≡ refused_turn s refusal }
 {
     Turn {
         timers: s,
@@ -174,7 +174,7 @@ fn refused(s: Timers, refusal: Refusal) -> Turn
 
 // "2 is now given at the timers for any width but 4 and 8, or an offset that isn't a multiple of the width."
 fn aligned(width: u64, offset: u64) -> bool
-    ensures { result ≡ alignedTo width offset }
+    ensures { result ≡ aligned_to width offset }
 {
     match width {
         4 => offset % 4 == 0,

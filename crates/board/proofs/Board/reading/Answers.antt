@@ -1,0 +1,15 @@
+use borrow.Author.Tests.{eq-eqb, ne_eqb}
+use Rattle.board.specs.Step.{reading_of}
+use Rattle.board.proofs.Board.reading.Goals as goal
+
+pub returns-then-window-eq-CONTROLLER : goal.returns-then-window-eq-CONTROLLER
+unfolding reading_of
+returns-then-window-eq-CONTROLLER c = rw (eq-eqb _ _ c.if-window-eq-CONTROLLER.true, c.reading-t.ensures)
+
+pub returns-then-window-eq-TIMERS : goal.returns-then-window-eq-TIMERS
+unfolding reading_of
+returns-then-window-eq-TIMERS c = rw (ne_eqb _ _ c.if-window-eq-CONTROLLER.false, eq-eqb _ _ c.if-window-eq-TIMERS.true, c.reading-t-then-window-eq-TIMERS.ensures)
+
+pub returns : goal.returns
+unfolding reading_of
+returns c = rw (ne_eqb _ _ c.if-window-eq-CONTROLLER.false, ne_eqb _ _ c.if-window-eq-TIMERS.false) c.refused.ensures

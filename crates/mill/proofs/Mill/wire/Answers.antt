@@ -1,0 +1,25 @@
+use Rattle.mill.proofs.Served.{board-formed, by-served, turn-refused}
+use Rattle.board.proofs.Served.{served-wire}
+use Rattle.board.proofs.At.{wiring-at}
+use Rattle.board.proofs.Formed.{Sized, formed-in}
+use Rattle.board.specs.Events.{other}
+use Rattle.mill.specs.declared.MillCall.TheVariants as millcall
+use Rattle.board.specs.declared.Call.TheVariants as call
+use lib.ListN.{length}
+use mathlib.Core.Path.{◌≡◌, refl, sym, ◌∙◌}
+use borrow.Author.Rules.{rules}
+use Rattle.mill.proofs.Mill.wire.Goals as goal
+
+pub returns-then-well_formed : goal.returns-then-well_formed
+returns-then-well_formed c =
+    let sized : Sized c.args.self.board = let b = c.args.self.board in
+    let low : length b.controller.entries.low ≡ 24 = search rules in
+    let destination : length b.controller.entries.destination ≡ 24 = search rules in
+    let level : length b.controller.entries.level ≡ 24 = search rules in
+    let held : length b.controller.entries.held ≡ 24 = search rules in
+    record { low = low; destination = destination; level = level; held = held } in
+    let long : length c.args.self.board.outside ≡ 24 = search rules in
+    c.seen.ensures ∙ by-served c.args.self (call.Wire c.args.pin c.args.level) c.wiring.result other (sym c.well_formed-2.ensures ∙ c.if-well_formed.true) (c.wiring.ensures ∙ wiring-at c.args.self.board (formed-in c.args.self.board (board-formed c.args.self (sym c.well_formed-2.ensures ∙ c.if-well_formed.true)) (sized)) (long) c.args.pin c.args.level ∙ sym (served-wire c.args.self.board c.args.pin c.args.level)) refl
+
+pub returns-else-well_formed : goal.returns-else-well_formed
+returns-else-well_formed c = c.refused.ensures ∙ sym (turn-refused c.args.self (millcall.Board (call.Wire c.args.pin c.args.level)) (sym c.well_formed-2.ensures ∙ c.if-well_formed.false))
