@@ -2,11 +2,11 @@
 -- and outside levels, and put together with others in their places.
 -- Here alone is said where in the board they lie.
 -- Assumes nothing.
-use mathlib.Core.Path.{◌≡◌, refl, sym, subst}
+use mathlib.Core.Path.{◌≡◌, refl, subst}
 use Prim.Native.Nat.{ℕ, zero, ◌+◌}
-use mathlib.Core.List.{[], ◌∷◌, List, map, map-id}
+use mathlib.Core.List.{[], ◌∷◌, List, map}
 use seplogic.Ra.Ura.{Ura}
-use seplogic.Ra.TreeShare.{full_share}
+use base.Fraction.{full_share}
 use mir.Syntax.{Sym, Tys, Width, ty_int, ty_struct, w8, w32}
 use mir.Val.{Val, Vals, vint, vstruct, vnil, vcons}
 use base.Logic.{SProp, ent, sep, wand, all, id⊢, all_e, apply∗}
@@ -108,18 +108,8 @@ module _ {M : Type 1} {𝓤 : Ura M} (𝓛 : Logic 𝓤) where
     abbrev e : Entries
     e = h.controller.entries
 
-    -- an array's elements stand in a struct as its field spells them: each by itself
-    abbrev same : List ℕ → List ℕ
-    same = map (λ (v : ℕ). v)
-
     abbrev row : Width → List ℕ → Val
-    row w xs = array_val (map (vint w) (same xs))
-
-    shed : (w : Width) (b o : ℕ) (xs : List ℕ) → ent 𝓤 ⟦ Row w b o (same xs) ⟧ ⟦ Row w b o xs ⟧
-    shed w b o xs = subst (λ (ys : List ℕ). ent 𝓤 ⟦ Row w b o (same xs) ⟧ ⟦ Row w b o ys ⟧) (map-id xs) (id⊢ 𝓤 _)
-
-    don : (w : Width) (b o : ℕ) (xs : List ℕ) → ent 𝓤 ⟦ Row w b o xs ⟧ ⟦ Row w b o (same xs) ⟧
-    don w b o xs = subst (λ (ys : List ℕ). ent 𝓤 ⟦ Row w b o ys ⟧ ⟦ Row w b o (same xs) ⟧) (map-id xs) (id⊢ 𝓤 _)
+    row w xs = array_val (map (vint w) xs)
 
     abbrev dests : List ℕ → Fml
     dests = Row w8 b (o + 104 + 8 + 96)
@@ -141,36 +131,26 @@ module _ {M : Type 1} {𝓤 : Ura M} (𝓛 : Logic 𝓤) where
 
     apart : ent 𝓤 ⟦ fat full_share T'.mir b o (mach h) ⟧ (⟦ words b o e.low ⟧ ∗ ⟦ levels b o e.level ⟧ ∗ ⟦ edges b o e.held ⟧ ∗ ⟦ outsides b o h.outside ⟧ ∗ AllBack h b o)
     apart =
-        qed 𝓛 (‵ (fat full_share T'.mir b o (mach h)) ∷ []) ∵ fields ! $ use1 𝓛 (‵ timers ⊛ ‵ (controller h.controller) ⊛ ‵ (outsides b o (same h.outside)) ⊛ ‵ ftrue) (id⊢ 𝓤 _) $ split ! $ move ! (1 ∷ []) $ split3 ! $
+        qed 𝓛 (‵ (fat full_share T'.mir b o (mach h)) ∷ []) ∵ fields ! $ use1 𝓛 (‵ timers ⊛ ‵ (controller h.controller) ⊛ ‵ (outsides b o h.outside) ⊛ ‵ ftrue) (id⊢ 𝓤 _) $ split ! $ move ! (1 ∷ []) $ split3 ! $
         -- [controller; outside; true; timers; the board again]
         fields ! $ use1 𝓛 (‵ (id h.controller.id) ⊛ ‵ (index h.controller.index) ⊛ ‵ (entries e) ⊛ ‵ ftrue) (id⊢ 𝓤 _) $ split ! $ move ! (1 ∷ []) $ split3 ! $
         -- [index; entries; true; id; the controller again; outside; true; timers; the board again]
-        move ! (1 ∷ []) $ fields ! $ use1 𝓛 (‵ (words b o (same e.low)) ⊛ ‵ (dests (same e.destination)) ⊛ ‵ (levels b o (same e.level)) ⊛ ‵ (edges b o (same e.held)) ⊛ ‵ ftrue) (id⊢ 𝓤 _) $
+        move ! (1 ∷ []) $ fields ! $ use1 𝓛 (‵ (words b o e.low) ⊛ ‵ (dests e.destination) ⊛ ‵ (levels b o e.level) ⊛ ‵ (edges b o e.held) ⊛ ‵ ftrue) (id⊢ 𝓤 _) $
         split ! $ move ! (1 ∷ []) $ split ! $ move ! (1 ∷ []) $ split3 ! $
         -- [level; held; true; destination; low; the entries again; index; true; id; the controller again; outside;
         -- true; timers; the board again]
-        move ! (4 ∷ []) $ use1 𝓛 (‵ (words b o e.low)) (shed w32 b (low-at o) e.low) $ frame ! $ use1 𝓛 (‵ (levels b o e.level)) (shed w8 b (level-at o) e.level) $ frame ! $
-        use1 𝓛 (‵ (edges b o e.held)) (shed w8 b (held_at o) e.held) $ frame ! $ move ! (7 ∷ []) $ use1 𝓛 (‵ (outsides b o h.outside)) (shed w8 b (outside-at o) h.outside) $ frame ! $
+        move ! (4 ∷ []) $ frame ! $ frame ! $ frame ! $ move ! (7 ∷ []) $ frame ! $
         each ! (Backs h b o) (λ (w, l, k, u).
         assume {P = ⟦ fat full_share T'.mir b o (mach (placed h w l k u)) ⟧} ! (‵ (words b o w) ⊛ ‵ (levels b o l) ⊛ ‵ (edges b o k) ⊛ ‵ (outsides b o u)) $ split ! $ move ! (1 ∷ []) $ split3 ! $
         -- [level; held; outside; low; true; destination; the entries again; index; true; id; the controller again;
         -- true; timers; the board again]
-        move ! (3 ∷ []) $ use1 𝓛 (‵ (words b o (same w))) (don w32 b (low-at o) w) $ move ! (1 ∷ []) $ use1 𝓛 (‵ (levels b o (same l))) (don w8 b (level-at o) l) $
-        move ! (2 ∷ []) $ use1 𝓛 (‵ (edges b o (same k))) (don w8 b (held_at o) k) $ move ! (3 ∷ []) $ use1 𝓛 (‵ (outsides b o (same u))) (don w8 b (outside-at o) u) $
-        move ! (3 ∷ 5 ∷ 2 ∷ 1 ∷ 4 ∷ []) $ group ! 5 $ move ! (0 ∷ 2 ∷ []) $ struct ! (vcons (row w32 w) (vcons (row w8 e.destination) (vcons (row w8 l) (vcons (row w8 k) vnil)))) refl $
+        move ! (3 ∷ 5 ∷ 0 ∷ 1 ∷ 4 ∷ []) $ group ! 5 $ move ! (0 ∷ 2 ∷ []) $ struct ! (vcons (row w32 w) (vcons (row w8 e.destination) (vcons (row w8 l) (vcons (row w8 k) vnil)))) refl $
         -- [entries; outside; index; true; id; the controller again; true; timers; the board again]
         move ! (4 ∷ 2 ∷ 0 ∷ 3 ∷ []) $ group ! 4 $ move ! (0 ∷ 2 ∷ []) $ struct ! (vcons (vint w32 h.controller.id) (vcons (vint w32 h.controller.index) (vcons (LL.val E.the_type E'.the_laws (with_level (with_held (with_low e w) k) l)) vnil))) refl $
         -- [controller; outside; true; timers; the board again]
         move ! (3 ∷ 0 ∷ 1 ∷ 2 ∷ []) $ group ! 4 $ struct ! (vcons (LL.val S.the_type S'.the_laws h.timers) (vcons (LL.val C.the_type C'.the_laws (placed h w l k u).controller) (vcons (row w8 u) vnil))) refl $ done !)
 
--- ---- what is known of the rows: in a struct each is spelled with its elements mapped by the identity
-fresh : (w : Width) (xs : List ℕ) → Is (Rows w) (map (λ (v : ℕ). v) xs) (spelled w (map (λ (v : ℕ). v) xs)) → Is (Rows w) xs (spelled w xs)
-fresh w xs = subst (λ (ys : List ℕ). Is (Rows w) ys (spelled w ys)) (map-id xs)
-
-stale : (w : Width) (xs : List ℕ) → Is (Rows w) xs (spelled w xs) → Is (Rows w) (map (λ (v : ℕ). v) xs) (spelled w (map (λ (v : ℕ). v) xs))
-stale w xs = subst (λ (ys : List ℕ). Is (Rows w) ys (spelled w ys)) (sym (map-id xs))
-
--- a board's own, and a board made of others
+-- ---- what is known of the rows: a board's own, and a board's that is made of others
 module _ (h : Board) (was : Is T.the_row h (mach h ∷ [])) where
   controller-is : Is C.the_row h.controller (LL.vals C.the_type C'.the_laws h.controller)
   controller-is = (LL.owed T.the_type T'.the_laws h _ was).1.0
@@ -182,26 +162,26 @@ module _ (h : Board) (was : Is T.the_row h (mach h ∷ [])) where
   index_is = (LL.owed C.the_type C'.the_laws h.controller _ controller-is).1.0
 
   pub low-is : Is (Rows w32) h.controller.entries.low (spelled w32 h.controller.entries.low)
-  low-is = fresh w32 h.controller.entries.low (LL.owed E.the_type E'.the_laws h.controller.entries _ entries-is).0
+  low-is = (LL.owed E.the_type E'.the_laws h.controller.entries _ entries-is).0
 
   pub level-is : Is (Rows w8) h.controller.entries.level (spelled w8 h.controller.entries.level)
-  level-is = fresh w8 h.controller.entries.level (LL.owed E.the_type E'.the_laws h.controller.entries _ entries-is).1.1.0
+  level-is = (LL.owed E.the_type E'.the_laws h.controller.entries _ entries-is).1.1.0
 
   pub held-is : Is (Rows w8) h.controller.entries.held (spelled w8 h.controller.entries.held)
-  held-is = fresh w8 h.controller.entries.held (LL.owed E.the_type E'.the_laws h.controller.entries _ entries-is).1.1.1.0
+  held-is = (LL.owed E.the_type E'.the_laws h.controller.entries _ entries-is).1.1.1.0
 
   pub outside-is : Is (Rows w8) h.outside (spelled w8 h.outside)
-  outside-is = fresh w8 h.outside (LL.owed T.the_type T'.the_laws h _ was).1.1.0
+  outside-is = (LL.owed T.the_type T'.the_laws h _ was).1.1.0
 
   module _ (w l k u : List ℕ) (w-is : Is (Rows w32) w (spelled w32 w)) (l-is : Is (Rows w8) l (spelled w8 l)) (k-is : Is (Rows w8) k (spelled w8 k)) (u-is : Is (Rows w8) u (spelled w8 u)) where
     placed-entries : Is E.the_row (placed h w l k u).controller.entries (LL.vals E.the_type E'.the_laws (placed h w l k u).controller.entries)
-    placed-entries = LL.owes E.the_type E'.the_laws (placed h w l k u).controller.entries (stale w32 w w-is, ((LL.owed E.the_type E'.the_laws h.controller.entries _ entries-is).1.0, (stale w8 l l-is, (stale w8 k k-is, tt))))
+    placed-entries = LL.owes E.the_type E'.the_laws (placed h w l k u).controller.entries (w-is, ((LL.owed E.the_type E'.the_laws h.controller.entries _ entries-is).1.0, (l-is, (k-is, tt))))
 
     placed-controller : Is C.the_row (placed h w l k u).controller (LL.vals C.the_type C'.the_laws (placed h w l k u).controller)
     placed-controller = LL.owes C.the_type C'.the_laws (placed h w l k u).controller ((LL.owed C.the_type C'.the_laws h.controller _ controller-is).0, ((LL.owed C.the_type C'.the_laws h.controller _ controller-is).1.0, (placed-entries, tt)))
 
     pub placed-is : Is T.the_row (placed h w l k u) (mach (placed h w l k u) ∷ [])
-    placed-is = LL.owes T.the_type T'.the_laws (placed h w l k u) ((LL.owed T.the_type T'.the_laws h _ was).0, (placed-controller, (stale w8 u u-is, tt)))
+    placed-is = LL.owes T.the_type T'.the_laws (placed h w l k u) ((LL.owed T.the_type T'.the_laws h _ was).0, (placed-controller, (u-is, tt)))
 
 -- ---- as steps
 module _ {M : Type 1} {𝓤 : Ura M} {𝓛 : Logic 𝓤} {K : Type 0} {Γ : List (Item 𝓤)} {G : Goal 𝓤 𝓛.H} where

@@ -6,7 +6,7 @@
 use Prim.Native.Nat.{ℕ}
 use mathlib.Core.List.{[], ◌∷◌, List}
 use seplogic.Ra.Ura.{Ura}
-use seplogic.Ra.TreeShare.{full_share}
+use base.Fraction.{full_share}
 use mir.Syntax.{named, Width, w8, w32}
 use mir.Val.{vptr}
 use base.Fml.{Fml, GName, fat, flft, flent, fres}
@@ -39,10 +39,10 @@ outside-ref h b o δ = record { ref_ptr = (b, outside-at o); ghost_name = δ; no
 
 -- lent for the lifetime α, as the i-th of the callee's
 abbrev pub Lent : Width → ℕ → ℕ → MutBor (List ℕ) → Fml
-Lent w i α x = (MutRef (named i) (α ∷ []) (Rows w)).own_val x (vptr x.ptr.0 x.ptr.1 ∷ [])
+Lent w i α x = (MutRef (named i) (α ∷ []) (Rows w)).own_val x (vptr x.ref_ptr.0 x.ref_ptr.1 ∷ [])
 
 abbrev Lender : Width → ℕ → MutBor (List ℕ) → Fml
-Lender w α x = flent (α ∷ []) (Body (mem (Rows w)) x.ptr.0 x.ptr.1 x.name)
+Lender w α x = flent (α ∷ []) (Body (mem (Rows w)) x.ref_ptr.0 x.ref_ptr.1 x.ghost_name)
 
 abbrev pub token : ℕ → Fml
 token α = flft (α ∷ []) full_share

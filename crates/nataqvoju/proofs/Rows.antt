@@ -5,7 +5,7 @@ use mathlib.Core.Path.{refl, sym}
 use Prim.Native.Nat.{ℕ}
 use mathlib.Core.List.{[], ◌∷◌, List, map}
 use seplogic.Ra.Ura.{Ura}
-use seplogic.Ra.TreeShare.{full_share}
+use base.Fraction.{full_share}
 use mir.Syntax.{Lifetime, Width, ty_array, ty_int}
 use mir.Val.{Val, vint, vptr}
 use base.Fml.{Fml, GName, fsep, fat, flft, flent, fres}

@@ -1,7 +1,6 @@
 -- What an entry gives, in its two cases: on a board that its call takes what the call does, on another the refusal 5.
 use mathlib.Core.Path.{◌≡◌, refl, sym, ap, ◌∙◌}
-use mathlib.Core.Bool.{Bool, true, false, not}
-use lib.Dec.{T}
+use mathlib.Core.Bool.{true, false}
 use Rattle.answers.specs.declared.Answer.{Answer}
 use Rattle.answers.specs.declared.Answer.TheVariants as answer
 use Rattle.answers.specs.declared.Refusal.TheVariants as refusal
@@ -16,32 +15,24 @@ use Rattle.board.proofs.Served.{turn-served, turn-refused}
 use Rattle.nataqvoju.specs.declared.Out.{Out}
 use Rattle.nataqvoju.specs.Lent.{out_of, Gives}
 
-pub holds : (z : Bool) → T z → z ≡ true
-holds true w = refl
-holds false w = absurd w
-
-fails : (z : Bool) → T (not z) → z ≡ false
-fails true w = absurd w
-fails false w = refl
-
 -- a board and an answer that are a turn, with the answer as numbers
 pub turn-gives : (t : Turn) (b : Board) (a : Answer) (n : Numbers) → turn b a ≡ t → n ≡ numbers_of a → Gives t b n
 turn-gives t b a n is told = (ap (λ (u : Turn). u.board) is, told ∙ ap (λ (u : Turn). numbers_of u.answer) is)
 
 -- what a call does, where it takes the board, is what it gives, however it is said
-pub served : (b : Board) (c : Call) (t : Turn) (d : Board) (r : Numbers) → T (takes b c) → served_of b c ≡ t → Gives t d r → Gives (turn_of b c) d r
+pub served : (b : Board) (c : Call) (t : Turn) (d : Board) (r : Numbers) → takes b c ≡ true → served_of b c ≡ t → Gives t d r → Gives (turn_of b c) d r
 served b c t d r w e g =
-    let is : t ≡ turn_of b c = sym (turn-served b c (holds (takes b c) w) ∙ e) in
+    let is : t ≡ turn_of b c = sym (turn-served b c w ∙ e) in
     (g.0 ∙ ap (λ (u : Turn). u.board) is, g.1 ∙ ap (λ (u : Turn). numbers_of u.answer) is)
 
 -- as a board and numbers
-pub gives : (b : Board) (c : Call) (o : Out) → T (takes b c) → o ≡ out_of (served_of b c) → Gives (turn_of b c) o.board o.numbers
+pub gives : (b : Board) (c : Call) (o : Out) → takes b c ≡ true → o ≡ out_of (served_of b c) → Gives (turn_of b c) o.board o.numbers
 gives b c o w e = served b c (served_of b c) o.board o.numbers w refl (ap (λ (r : Out). r.board) e, ap (λ (r : Out). r.numbers) e)
 
 -- and where it does not take it
-pub refuses : (b : Board) (c : Call) (r : Numbers) → T (not (takes b c)) → r ≡ numbers_of (answer.Refused refusal.State) → Gives (turn_of b c) b r
-refuses b c r w e = (ap (λ (t : Turn). t.board) (sym (turn-refused b c (fails (takes b c) w))), e ∙ ap (λ (t : Turn). numbers_of t.answer) (sym (turn-refused b c (fails (takes b c) w))))
+pub refuses : (b : Board) (c : Call) (r : Numbers) → takes b c ≡ false → r ≡ numbers_of (answer.Refused refusal.State) → Gives (turn_of b c) b r
+refuses b c r w e = (ap (λ (t : Turn). t.board) (sym (turn-refused b c w)), e ∙ ap (λ (t : Turn). numbers_of t.answer) (sym (turn-refused b c w)))
 
 -- a call that leaves the board, with its numbers alone
-pub tells : (b : Board) (c : Call) (r : Numbers) → T (takes b c) → b ≡ (turn_of b c).board → r ≡ numbers_of (served_of b c).answer → Gives (turn_of b c) b r
-tells b c r w kept e = (kept, e ∙ ap (λ (t : Turn). numbers_of t.answer) (sym (turn-served b c (holds (takes b c) w))))
+pub tells : (b : Board) (c : Call) (r : Numbers) → takes b c ≡ true → b ≡ (turn_of b c).board → r ≡ numbers_of (served_of b c).answer → Gives (turn_of b c) b r
+tells b c r w kept e = (kept, e ∙ ap (λ (t : Turn). numbers_of t.answer) (sym (turn-served b c w)))

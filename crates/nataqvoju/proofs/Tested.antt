@@ -14,28 +14,30 @@ use Prim.Native.Nat.{ℕ}
 use mathlib.Core.List.{[], ◌∷◌, List}
 use lib.Dec.{T}
 use seplogic.Ra.Ura.{Ura}
-use seplogic.Ra.TreeShare.{full_share}
+use base.Fraction.{full_share}
 use mir.Syntax.{named, Opd as Operand, Place, Body as Code, seq, skip, cond, call}
 use mir.Val.{Val, vbool, vptr}
 use base.Logic.{SProp, ent, emp, sep, snd∗, ex_e, id⊢}
 use base.Stored.{Gv}
-use base.Fml.{GName, Lft, Share, ftrue, fat, flft, flent, fobs, fauth, fres, fbor, fobor, fshr_bor}
+use base.Fml.{GName, Lft, Share, ftrue, fat, flft, flent, fobs, fauth, fbor, fobor}
 use prog.Memory.{Memory}
 use prog.Routine.{Routine}
 use prog.Wp.{Env, Calls, Loops, Wp, after_seq}
 use types.Logic.{Logic, sem}
 use contract.Monad.{Fun, fact}
-use types.Kit.{Item, Goal, Soaks, Post, any_q, post, runs, lands, Seq, Step, step, ‵, raw, ◌⊛◌, some, later, ◌$◌, ◌∵◌, !, qed, move, drop, use0, use1, use2, split, join, pick, fjoin, fjoin3, feq_i, regoal, frame, await, done}
+use types.Kit.{Item, Goal, Soaks, Post, any_q, post, runs, lands, Seq, Step, step, ‵, raw, ◌⊛◌, some, later, ◌$◌, ◌∵◌, !, qed, move, drop, use0, use1, use2, split, join, pick, fjoin, feq_i, regoal, frame, await, done}
 use types.Run.{Opd, Opds, first, branches, skips, no_more}
-use types.Tokens.{lft_new, lft_end, lent_back, res_dup, shr_bor_dup}
+use types.Tokens.{lft_new, lft_end, lent_back}
 use types.Mut.{open_ref, close_ref}
 use types.SemTy.{Body}
 use sound.WpLaws.{FmC}
 use denote.Laws.{Is, shows}
-use denote.Memory.{mem, part_at, cell_at}
+use denote.Memory.{mem, part_at, cell_at, shared_of, hidden_shr}
+use denote.Opens.{twice_dup}
 use denote.Builtin.{bool}
-use denote.Ref.{MutBor, ShrRef}
-use denote.Lend.{lends_shr}
+use denote.Ref.{Bor, ShrRef}
+use denote.Lend.{lends_free}
+use denote.Copied.{Copied}
 use denote.Steps.{only, opens, closes, owned, peeks, facts, heard, nothing}
 use denote.Struct.Steps.{spelt}
 use denote.Struct.Laws as LL
@@ -61,6 +63,10 @@ use Rattle.nataqvoju.proofs.calls.refused.Symbol.{name as #nataqvoju·calls·ref
 abbrev pub mach : Board → Val
 mach d = LL.val T.the_type T'.the_laws d
 
+-- the state is copied
+board_copied : {M : Type 1} {𝓤 : Ura M} (𝓛 : Logic 𝓤) → Copied 𝓛 T.the_row
+board_copied 𝓛 = LL.copied T.the_type T'.the_copy 𝓛
+
 -- the contracts that every entry's proof cites
 abbrev pub Test : {M : Type 1} {𝓤 : Ura M} (𝓛 : Logic 𝓤) (mem : Memory → SProp 𝓤) (run : Routine → Fun 𝓤) → Contract 𝓤
 Test 𝓛 mem run = triple_of 𝓛 test.signature (test.spec 𝓛 mem run)
@@ -69,13 +75,12 @@ abbrev pub No : {M : Type 1} {𝓤 : Ura M} (𝓛 : Logic 𝓤) (mem : Memory �
 No 𝓛 mem run = triple_of 𝓛 no.signature (no.spec 𝓛 mem run)
 
 module _ {M : Type 1} {𝓤 : Ura M} (𝓛 : Logic 𝓤) (at_mem : Memory → SProp 𝓤) (run : Routine → Fun 𝓤) where
-  -- what `formed`'s triple binds outside: the board lent for the lifetime κ, of whose token there is the share s, under
-  -- the name δ
+  -- what `formed`'s triple binds outside: the board lent for the lifetime κ, of whose token there is the share s
   open 𝓛 use {A}
 
-  module _ (h : Board) (b o : ℕ) (κ : Lft) (s : Share) (δ : GName) where
-    abbrev x : MutBor Board
-    x = record { ref_ptr = (b, o); ghost_name = δ; now = h }
+  module _ (h : Board) (b o : ℕ) (κ : Lft) (s : Share) where
+    abbrev x : Bor Board
+    x = record { ref_ptr = (b, o); now = h }
 
     abbrev to-test : (Test 𝓛 at_mem run).Ghost
     to-test = (((κ, tt), (s, tt), tt, (x, tt), (vptr b o ∷ [], tt)), tt)
@@ -128,32 +133,32 @@ module _ {M : Type 1} {𝓤 : Ura M} {𝓛 : Logic 𝓤} {K : Type 0} {Γ : List
         (‵ (fobs γ ((T.the_row).coded.code h)) ∷ ‵ (fbor κ (Body (mem T.the_row) b o γ)) ∷ ‵ (flft κ s) ∷ Γ) (runs C Λ E (seq (call #nataqvoju·formed xs d) rest) q)
     tests t fm at_mem run known {xs} {d} {rest} h b o os = step (λ goes_on.
         open_ref t tt (mem T.the_row) {b = b} {o = o} $ lft_new t tt (λ α. move t (1 ∷ []) $
-        use1 𝓛 (later (some (λ (δ : GName). ‵ ((ShrRef (named 0) (α ∷ []) T.the_row).own_val (x 𝓛 at_mem run h b o (α ∷ []) full_share δ) (vptr b o ∷ [])) ⊛ ‵ (flent (α ∷ []) (part_at T.the_row full_share h b o))))) (lends_shr 𝓛 T.the_row (named 0) (α ∷ []) full_share h b o) $ await t tt $ pick t (λ δ. split t $
+        use1 𝓛 (later (‵ ((ShrRef (named 0) (α ∷ []) T.the_row).own_val (x 𝓛 at_mem run h b o (α ∷ []) full_share) (vptr b o ∷ [])) ⊛ ‵ (flent (α ∷ []) (part_at T.the_row full_share h b o)))) (lends_free 𝓛 T.the_row (named 0) (α ∷ []) full_share h b o ((board_copied 𝓛).lends full_share h b o)) $ await t tt $ split t $
         -- [the `&`; the lender's part; the new lifetime's token; the open borrow; obs; auth; …]
-        move t (2 ∷ 0 ∷ []) $ use2 𝓛 (raw ((Test 𝓛 at_mem run).pre (to-test 𝓛 at_mem run h b o (α ∷ []) full_share δ))) (goes-test 𝓛 at_mem run h b o (α ∷ []) full_share δ) $
-        calls_at t fm (Test 𝓛 at_mem run) known (to-test 𝓛 at_mem run h b o (α ∷ []) full_share δ) (os _ _ _ _ _) (λ v.
-        use1 𝓛 (later (some (λ (r : Bool). ((‵ (flft (α ∷ []) full_share) ⊛ ‵ ftrue) ⊛ ‵ (bool.own_val r (v ∷ []))) ⊛ raw (ensured 𝓛 test.ended (test.clauses 𝓛 at_mem run) (α ∷ [], tt) (x 𝓛 at_mem run h b o (α ∷ []) full_share δ, tt) tt r)))) (id⊢ 𝓤 _) $ await t tt $ pick t (λ r.
-        split t $ move t (1 ∷ []) $ use1 𝓛 (raw (fact 𝓤 (r ≡ well_formed h))) (tested 𝓛 at_mem run h b o (α ∷ []) full_share δ r) $ heard t (r ≡ well_formed h) (λ e.
+        move t (2 ∷ 0 ∷ []) $ use2 𝓛 (raw ((Test 𝓛 at_mem run).pre (to-test 𝓛 at_mem run h b o (α ∷ []) full_share))) (goes-test 𝓛 at_mem run h b o (α ∷ []) full_share) $
+        calls_at t fm (Test 𝓛 at_mem run) known (to-test 𝓛 at_mem run h b o (α ∷ []) full_share) (os _ _ _ _ _) (λ v.
+        use1 𝓛 (later (some (λ (r : Bool). ((‵ (flft (α ∷ []) full_share) ⊛ ‵ ftrue) ⊛ ‵ (bool.own_val r (v ∷ []))) ⊛ raw (ensured 𝓛 test.ended (test.clauses 𝓛 at_mem run) (α ∷ [], tt) (x 𝓛 at_mem run h b o (α ∷ []) full_share, tt) tt r)))) (id⊢ 𝓤 _) $ await t tt $ pick t (λ r.
+        split t $ move t (1 ∷ []) $ use1 𝓛 (raw (fact 𝓤 (r ≡ well_formed h))) (tested 𝓛 at_mem run h b o (α ∷ []) full_share r) $ heard t (r ≡ well_formed h) (λ e.
         split t $ move t (1 ∷ []) $ facts t bool (Is bool) (shows 𝓛 bool) r (v ∷ []) (λ is.
         -- the lifetime is ended, the board comes back, and the borrow is closed: [the token and true; the lender's
         -- part; the open borrow; obs; auth; …]
         split t $ lft_end t tt $ move t (0 ∷ 2 ∷ []) $ lent_back t tt $ move t (0 ∷ 2 ∷ 3 ∷ 4 ∷ []) $ close_ref t tt (mem T.the_row) h {b = b} {o = o} $ move t (3 ∷ []) $ drop t $
-        regoal t (λ (u : Val). lands C Λ E d u rest q) (ap only is ∙ ap vbool e) refl $ goes_on)))))))
+        regoal t (λ (u : Val). lands C Λ E d u rest q) (ap only is ∙ ap vbool e) refl $ goes_on))))))
 
-    -- the operand is read whatever the first three entries are, in which the board is lent on
+    -- the operand is read whatever the first two entries are, in which the board is lent on
     pub asks : K → FmC 𝓤 H 𝓛.laws C → (at_mem : Memory → SProp 𝓤) (run : Routine → Fun 𝓤) → Triple 𝓤 (C #nataqvoju·formed) (Test 𝓛 at_mem run)
-        → {xs : List Operand} {d : Place} {rest : Code} {κ : Lft} {s : Share} {γ : GName} (h : Board) (b o : ℕ) → ((i j k : Item 𝓤) → Opds K 𝓛 (i ∷ j ∷ k ∷ Γ) E xs (vptr b o ∷ []))
-        → Step K 𝓛 (‵ (flft κ s) ∷ ‵ (fres γ ((T.the_row).coded.code h)) ∷ ‵ (fshr_bor κ (λ q. part_at T.the_row q h b o)) ∷ Γ) (lands C Λ E d (vbool (well_formed h)) rest q)
-        (‵ (flft κ s) ∷ ‵ (fres γ ((T.the_row).coded.code h)) ∷ ‵ (fshr_bor κ (λ q. part_at T.the_row q h b o)) ∷ Γ) (runs C Λ E (seq (call #nataqvoju·formed xs d) rest) q)
-    asks t fm at_mem run known {xs} {d} {rest} {κ} {s} {γ} h b o os = step (λ goes_on.
-        move t (1 ∷ []) $ res_dup t $ move t (3 ∷ []) $ shr_bor_dup t $ feq_i t (List Val) (vptr b o ∷ []) (vptr b o ∷ []) refl $ move t (0 ∷ 3 ∷ 1 ∷ []) $ fjoin3 t $
-        -- [the `&`; the shared borrow; the name's value; the token; …]
-        move t (3 ∷ 0 ∷ []) $ use2 𝓛 (raw ((Test 𝓛 at_mem run).pre (to-test 𝓛 at_mem run h b o κ s γ))) (goes-test 𝓛 at_mem run h b o κ s γ) $
-        calls_at t fm (Test 𝓛 at_mem run) known (to-test 𝓛 at_mem run h b o κ s γ) (os _ _ _) (λ v.
-        use1 𝓛 (later (some (λ (r : Bool). ((‵ (flft κ s) ⊛ ‵ ftrue) ⊛ ‵ (bool.own_val r (v ∷ []))) ⊛ raw (ensured 𝓛 test.ended (test.clauses 𝓛 at_mem run) (κ, tt) (x 𝓛 at_mem run h b o κ s γ, tt) tt r)))) (id⊢ 𝓤 _) $ await t tt $ pick t (λ r.
-        split t $ move t (1 ∷ []) $ use1 𝓛 (raw (fact 𝓤 (r ≡ well_formed h))) (tested 𝓛 at_mem run h b o κ s γ r) $ heard t (r ≡ well_formed h) (λ e.
+        → {xs : List Operand} {d : Place} {rest : Code} {κ : Lft} {s : Share} (h : Board) (b o : ℕ) → ((i j : Item 𝓤) → Opds K 𝓛 (i ∷ j ∷ Γ) E xs (vptr b o ∷ []))
+        → Step K 𝓛 (‵ (flft κ s) ∷ ‵ (hidden_shr T.the_row κ h b o) ∷ Γ) (lands C Λ E d (vbool (well_formed h)) rest q)
+        (‵ (flft κ s) ∷ ‵ (hidden_shr T.the_row κ h b o) ∷ Γ) (runs C Λ E (seq (call #nataqvoju·formed xs d) rest) q)
+    asks t fm at_mem run known {xs} {d} {rest} {κ} {s} h b o os = step (λ goes_on.
+        move t (1 ∷ []) $ twice_dup t (shared_of T.the_row h b o) ((board_copied 𝓛).opens h b o).1 κ $ feq_i t (List Val) (vptr b o ∷ []) (vptr b o ∷ []) refl $ fjoin t $
+        -- [the `&`; what the other `&` holds; the token; …]
+        move t (2 ∷ 0 ∷ []) $ use2 𝓛 (raw ((Test 𝓛 at_mem run).pre (to-test 𝓛 at_mem run h b o κ s))) (goes-test 𝓛 at_mem run h b o κ s) $
+        calls_at t fm (Test 𝓛 at_mem run) known (to-test 𝓛 at_mem run h b o κ s) (os _ _) (λ v.
+        use1 𝓛 (later (some (λ (r : Bool). ((‵ (flft κ s) ⊛ ‵ ftrue) ⊛ ‵ (bool.own_val r (v ∷ []))) ⊛ raw (ensured 𝓛 test.ended (test.clauses 𝓛 at_mem run) (κ, tt) (x 𝓛 at_mem run h b o κ s, tt) tt r)))) (id⊢ 𝓤 _) $ await t tt $ pick t (λ r.
+        split t $ move t (1 ∷ []) $ use1 𝓛 (raw (fact 𝓤 (r ≡ well_formed h))) (tested 𝓛 at_mem run h b o κ s r) $ heard t (r ≡ well_formed h) (λ e.
         split t $ move t (1 ∷ []) $ facts t bool (Is bool) (shows 𝓛 bool) r (v ∷ []) (λ is.
-        split t $ move t (1 ∷ []) $ drop t $ move t (0 ∷ 2 ∷ 1 ∷ []) $
+        split t $ move t (1 ∷ []) $ drop t $
         regoal t (λ (u : Val). lands C Λ E d u rest q) (ap only is ∙ ap vbool e) refl $ goes_on)))))
 
     pub turns : K → FmC 𝓤 H 𝓛.laws C → (at_mem : Memory → SProp 𝓤) (run : Routine → Fun 𝓤) → Triple 𝓤 (C #nataqvoju·calls·refused) (No 𝓛 at_mem run) → {d : Place} {rest : Code}

@@ -2,6 +2,8 @@
 // own calls, as numbers. Every byte pattern of the lent memory is a board: one that is not well formed gets 5 and stays
 // as it is, unless the call is a reset. A call that changes one pin lends on the arrays that it changes; the others go
 // by a copy that is stored back.
+#![tactic(auto)]
+
 mod calls;
 
 ghost use Rattle.std.specs.Prelude.{◌≡◌};
@@ -15,7 +17,7 @@ use answers::Numbers;
 use board::Board;
 use entries::Entries;
 
-#[derive(Drop)]
+#[derive(Clone, Copy)]
 pub struct Out {
     pub board: Board,
     pub numbers: Numbers,

@@ -4,6 +4,8 @@
 //
 // It is a library of its own, beside the board's entries: compiled with them, what both call would be copied into
 // neither, and the board's calls would be slower.
+#![tactic(auto)]
+
 mod kinds;
 
 ghost use Rattle.nataqvoju_mill.specs.Kinds.{called_of};
@@ -13,7 +15,7 @@ ghost use Rattle.nataqvoju_mill.specs.Reset.{reset_by};
 use answers::Numbers;
 use mill::Mill;
 
-#[derive(Drop)]
+#[derive(Clone, Copy)]
 pub struct Out {
     pub mill: Mill,
     pub numbers: Numbers,

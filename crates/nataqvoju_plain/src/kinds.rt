@@ -1,6 +1,6 @@
 // A board's calls by value, each by the number of its kind in a log, all by the plain engine.
 ghost use Rattle.std.specs.Prelude.{◌≡◌};
-ghost use Rattle.board.specs.State.{refused as refusedTurn};
+ghost use Rattle.board.specs.State.{refused as refused_turn};
 ghost use Rattle.nataqvoju_plain.specs.Lent.{out_of};
 ghost use Rattle.nataqvoju_plain.specs.Kinds.{unknown_of, called_of};
 
@@ -35,7 +35,7 @@ fn out(turn: Turn) -> Out
 }
 
 fn refused(b: Board, refusal: Refusal) -> Turn
-    ensures { result ≡ refusedTurn b refusal }
+    ensures { result ≡ refused_turn b refusal }
 {
     Turn {
         board: b,

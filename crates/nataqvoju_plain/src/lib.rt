@@ -4,6 +4,8 @@
 // Every byte pattern of the lent memory is a board: one that is not well formed gets 5 and stays as it is.
 //
 // It is a library of its own: who wants the board's entries alone gets no second engine with them.
+#![tactic(auto)]
+
 mod kinds;
 
 ghost use Rattle.nataqvoju_plain.specs.Kinds.{called_of};
@@ -12,7 +14,7 @@ ghost use Rattle.nataqvoju_plain.specs.Lent.{Gives};
 use answers::Numbers;
 use board::Board;
 
-#[derive(Drop)]
+#[derive(Clone, Copy)]
 pub struct Out {
     pub board: Board,
     pub numbers: Numbers,

@@ -1,5 +1,7 @@
 // The salvage of a damaged log, for those who link from C: the log, the buffer for its records and the one for the list
 // are lent.
+#![tactic(auto)]
+
 ghost use Rattle.std.specs.Prelude.{◌≡◌};
 ghost use Rattle.salvage.specs.Salvage.{salvaged_of, kept_after, list_after};
 ghost use Rattle.salvage.specs.Told.{numbers_of};
