@@ -1,4 +1,3 @@
 mod Text
 mod Order
-mod Loop
 pub mod Numbers

@@ -1,8 +1,20 @@
 // What an argument is.
 ghost use Rattle.std.specs.Prelude.{◌≡◌};
 ghost use Rattle.program.specs.Argument.{same_text, begun_of, kind_of};
+ghost use Rattle.program.specs.Counts.{IsPrefixLen};
 
-#[derive(Drop)]
+use std::env::{Env, FillError};
+use std::io::{Error, Result};
+use std::str::from_utf8;
+
+// The system's numbers for what is wrong with a name, on Linux: it is missing, it is too long, it is no text.
+const EINVAL: i32 = 22;
+
+const ENAMETOOLONG: i32 = 36;
+
+const EILSEQ: i32 = 84;
+
+#[derive(Clone, Copy)]
 pub enum Argument {
     Help,
     Standard,
@@ -40,6 +52,7 @@ fn begins(argument: &[u8]) -> Argument
     Argument::Named
 }
 
+#[tactic(auto, unfolding(crate::specs::Argument::kind_of))]
 pub fn kind(argument: &[u8]) -> Argument
     ensures { result ≡ kind_of argument.now }
 {
@@ -55,31 +68,64 @@ pub fn kind(argument: &[u8]) -> Argument
     begins(argument)
 }
 
+// How many arguments there are, the program's own name among them.
+fn arg_count(rt: &HostRuntime) -> usize {
+    for i in 0..usize::MAX {
+        if let Err(FillError::NotPresent) = rt.arg(i, &mut []) {
+            return i;
+        }
+    }
+    usize::MAX
+}
+
+// Argument i at the start of buf, and its length. One that is missing, or longer than buf, is taken for an empty one.
+pub fn arg(rt: &HostRuntime, i: usize, buf: &mut [u8]) -> usize
+    ensures { IsPrefixLen result buf.new }
+{
+    match rt.arg(i, buf) {
+        Ok(n) => n,
+        Err(_) => 0,
+    }
+}
+
+// The name that argument i is, in buf, or why it is none. A file's name is text for std, which opens no other.
+pub(crate) fn named<'a>(rt: &HostRuntime, i: usize, buf: &'a mut [u8]) -> Result<&'a str> {
+    let n = match rt.arg(i, buf) {
+        Ok(n) => n,
+        Err(FillError::NotPresent) => return Err(Error::from_raw_os_error(EINVAL)),
+        Err(FillError::TooLong) => return Err(Error::from_raw_os_error(ENAMETOOLONG)),
+    };
+    match from_utf8(&buf[..n]) {
+        Ok(name) => Ok(name),
+        Err(_) => Err(Error::from_raw_os_error(EILSEQ)),
+    }
+}
+
 // An argument that is missing, or longer than a file's name can be, is taken for an empty one.
-fn kind_at(i: usize) -> Argument {
-    let mut text = io::buffer();
-    let n = os::arg(i, &mut text);
+fn kind_at(rt: &HostRuntime, i: usize) -> Argument {
+    let mut text = [0; 4096];
+    let n = arg(rt, i, &mut text);
     kind(&text[..n])
 }
 
-fn is_help(i: usize) -> bool {
-    let kind = kind_at(i);
+fn is_help(rt: &HostRuntime, i: usize) -> bool {
+    let kind = kind_at(rt, i);
     match kind {
         Argument::Help => true,
         _ => false,
     }
 }
 
-fn is_dashed(i: usize) -> bool {
-    let kind = kind_at(i);
+fn is_dashed(rt: &HostRuntime, i: usize) -> bool {
+    let kind = kind_at(rt, i);
     match kind {
         Argument::Dashed => true,
         _ => false,
     }
 }
 
-fn is_standard(i: usize) -> bool {
-    let kind = kind_at(i);
+fn is_standard(rt: &HostRuntime, i: usize) -> bool {
+    let kind = kind_at(rt, i);
     match kind {
         Argument::Standard => true,
         _ => false,
@@ -87,65 +133,68 @@ fn is_standard(i: usize) -> bool {
 }
 
 // Whether `-h` or `--help` is among the arguments.
-pub fn asks_help() -> bool {
-    let count = os::arg_count();
-    let mut i = 1;
-    while i < count {
-        if is_help(i) {
+pub fn asks_help(rt: &HostRuntime) -> bool {
+    let count = arg_count(rt);
+    for i in 1..count {
+        if is_help(rt, i) {
             return true;
         }
-        i += 1;
     }
     false
 }
 
+// Whether argument i is there.
+pub(crate) fn has(rt: &HostRuntime, i: usize) -> bool {
+    i < arg_count(rt)
+}
+
 // Whether argument i is the last one and no option, or there is none.
-pub fn one_input(i: usize) -> bool {
-    let count = os::arg_count();
+pub fn one_input(rt: &HostRuntime, i: usize) -> bool {
+    let count = arg_count(rt);
     if count <= i {
         return true;
     }
     if 1 < count - i {
         return false;
     }
-    !is_dashed(i)
+    !is_dashed(rt, i)
 }
 
 // Whether argument i is the last one, and a file's name: neither an option nor standard input.
-pub fn one_file(i: usize) -> bool {
-    let count = os::arg_count();
+pub fn one_file(rt: &HostRuntime, i: usize) -> bool {
+    let count = arg_count(rt);
     if count <= i {
         return false;
     }
     if 1 < count - i {
         return false;
     }
-    if is_dashed(i) {
+    if is_dashed(rt, i) {
         return false;
     }
-    !is_standard(i)
+    !is_standard(rt, i)
 }
 
 // Whether argument i is an input and no option, the one after it is another or there is none, and there is no third. Only
 // one of the two can be standard input.
-pub fn two_inputs(i: usize) -> bool {
-    let count = os::arg_count();
+pub fn two_inputs(rt: &HostRuntime, i: usize) -> bool {
+    let count = arg_count(rt);
     if count <= i {
         return false;
     }
-    if is_dashed(i) {
+    if is_dashed(rt, i) {
         return false;
     }
     let next = i + 1;
-    if is_standard(i) {
-        return one_file(next);
+    if is_standard(rt, i) {
+        return one_file(rt, next);
     }
-    one_input(next)
+    one_input(rt, next)
 }
 
 // Whether argument i is an input and no option, the one after it a file's name, and there is no other.
-pub fn input_and_file(i: usize) -> bool {
-    let count = os::arg_count();
+pub fn input_and_file(rt: &HostRuntime, i: usize) -> bool {
+    let count = arg_count(rt);
     if count <= i {
         return false;
     }
@@ -153,15 +202,15 @@ pub fn input_and_file(i: usize) -> bool {
     if last - i != 1 {
         return false;
     }
-    if is_dashed(i) {
+    if is_dashed(rt, i) {
         return false;
     }
-    one_file(last)
+    one_file(rt, last)
 }
 
 // Whether argument i is this word.
-pub fn says(i: usize, word: &[u8]) -> bool {
-    let mut text = io::buffer();
-    let n = os::arg(i, &mut text);
+pub fn says(rt: &HostRuntime, i: usize, word: &[u8]) -> bool {
+    let mut text = [0; 4096];
+    let n = arg(rt, i, &mut text);
     same(&text[..n], word)
 }

@@ -2,8 +2,10 @@
 ghost use Rattle.std.specs.Prelude.{◌≡◌, ◌+◌, ◌*◌, ◌≤◌, ◌<◌, ◌&&◌, leb, length, drop};
 ghost use Rattle.program.specs.Number.{digit_of, capped, number, number_in, number_of, is_hex, either_of};
 
+use crate::arguments::arg;
+
 // Whether a text is a number, and which; u64::MAX stands for each one above it, and 0 for none.
-#[derive(Drop)]
+#[derive(Clone, Copy)]
 pub struct Number {
     pub ok: bool,
     pub value: u64,
@@ -69,6 +71,7 @@ fn number_from(base: u64, text: &[u8], from: usize) -> Number
     made(true, n)
 }
 
+#[tactic(auto, unfolding(crate::specs::Number::number_of))]
 pub fn number_of(text: &[u8]) -> Number
     ensures { result ≡ number_of text.now }
 {
@@ -85,6 +88,7 @@ fn is_hex(text: &[u8]) -> bool
     (text[0] == b'0') & ((text[1] == b'x') | (text[1] == b'X'))
 }
 
+#[tactic(auto, unfolding(crate::specs::Number::either_of))]
 pub fn either_of(text: &[u8]) -> Number
     ensures { result ≡ either_of text.now }
 {
@@ -102,15 +106,15 @@ fn room() -> [u8; 131072]
 }
 
 // The decimal number that argument i says; a missing argument says none.
-pub fn number_at(i: usize) -> Number {
+pub fn number_at(rt: &HostRuntime, i: usize) -> Number {
     let mut text = room();
-    let n = os::arg(i, &mut text);
+    let n = arg(rt, i, &mut text);
     number_of(&text[..n])
 }
 
 // The number that argument i says, in decimal or, after 0x, in hexadecimal.
-pub fn either_at(i: usize) -> Number {
+pub fn either_at(rt: &HostRuntime, i: usize) -> Number {
     let mut text = room();
-    let n = os::arg(i, &mut text);
+    let n = arg(rt, i, &mut text);
     either_of(&text[..n])
 }

@@ -1,116 +1,148 @@
 // What a program writes: its answer, a new file, its usage, and its messages, each one line on standard error.
+use crate::arguments::named;
 use crate::transfer::write_all;
+use std::fmt::InlineText;
+use std::fs;
+use std::fs::File;
+use std::io::{Error, Print, Write};
 
-// A call on `what` failed: the reason is errno's.
-pub fn failed(name: &[u8], what: &[u8]) {
-    io::write_all(libc::STDERR_FILENO, name);
-    io::write_all(libc::STDERR_FILENO, b": ");
-    os::fail(what);
+// The longest text of an error that is told. The C library's have at most 64 bytes.
+const REASON: usize = 256;
+
+// A part of a message. A message that can't be written is lost: there is nowhere to tell it.
+fn say(rt: &HostRuntime, text: &[u8]) {
+    let _ = Print::write_all(&rt.stderr(), text);
+}
+
+// The system's text of an error: std puts the error's number behind it.
+fn reason(text: &str) -> &str {
+    match text.split_once(" (os error ") {
+        Some((reason, _)) => reason,
+        None => text,
+    }
+}
+
+// A call on `what` failed with this error.
+pub(crate) fn failed(rt: &HostRuntime, name: &[u8], what: &[u8], error: Error) {
+    let text = InlineText::<REASON>::of(error);
+    told(rt, name, what, reason(text.as_str()).as_bytes());
 }
 
 // What is wrong without a call that failed.
-pub fn told(name: &[u8], what: &[u8], reason: &[u8]) {
-    io::write_all(libc::STDERR_FILENO, name);
-    io::write_all(libc::STDERR_FILENO, b": ");
-    io::write_all(libc::STDERR_FILENO, what);
-    io::write_all(libc::STDERR_FILENO, b": ");
-    io::write_all(libc::STDERR_FILENO, reason);
-    io::write_all(libc::STDERR_FILENO, b"\n");
+pub fn told(rt: &HostRuntime, name: &[u8], what: &[u8], reason: &[u8]) {
+    say(rt, name);
+    say(rt, b": ");
+    say(rt, what);
+    say(rt, b": ");
+    say(rt, reason);
+    say(rt, b"\n");
 }
 
 // Writes all of a text to a file, or tells why not. Answers whether all is written.
-fn put(name: &[u8], fd: i32, what: &[u8], text: &[u8]) -> bool {
-    let t = write_all(fd, text);
-    if !t.ok {
-        failed(name, what);
+fn put<W: Write>(rt: &HostRuntime, name: &[u8], to: &mut W, what: &[u8], text: &[u8]) -> bool {
+    let m = write_all(to, text);
+    if let Some(error) = m.error {
+        failed(rt, name, what, error);
         return false;
     }
-    if t.moved < text.len() {
-        told(name, what, b"nothing more is taken");
+    if m.moved < text.len() {
+        told(rt, name, what, b"nothing more is taken");
         return false;
     }
     true
 }
 
 // The answer, or a part of it, on standard output.
-pub fn print(name: &[u8], text: &[u8]) {
-    put(name, libc::STDOUT_FILENO, b"standard output", text);
+pub fn print(rt: &HostRuntime, name: &[u8], text: &[u8]) {
+    put(rt, name, &mut rt.stdout(), b"standard output", text);
 }
 
-// Closes a file that was written, or tells why not: what was written may be lost then.
-fn close(name: &[u8], fd: i32, what: &[u8]) -> bool {
-    if libc::close(fd) < 0 {
-        failed(name, what);
-        return false;
+// Brings a file that was written to its disk, or tells why not: what was written may be lost then. Closing it says nothing.
+fn settle(rt: &HostRuntime, name: &[u8], file: &File, what: &[u8]) -> bool {
+    match file.sync_all() {
+        Ok(()) => true,
+        Err(error) => {
+            failed(rt, name, what, error);
+            false
+        }
     }
-    true
 }
 
 // Writes all of a text to a file that is open, and closes it. Once a write has failed, no more is told of the file.
-fn put_and_close(name: &[u8], fd: i32, what: &[u8], text: &[u8]) -> bool {
-    if !put(name, fd, what, text) {
-        libc::close(fd);
+fn put_and_close(rt: &HostRuntime, name: &[u8], mut file: File, what: &[u8], text: &[u8]) -> bool {
+    if !put(rt, name, &mut file, what, text) {
         return false;
     }
-    close(name, fd, what)
+    settle(rt, name, &file, what)
 }
 
 // Removes a file that isn't whole, or tells why not.
-fn remove(name: &[u8], path: &[u8]) {
-    if os::unlink(path) < 0 {
-        io::write_all(libc::STDERR_FILENO, name);
-        io::write_all(libc::STDERR_FILENO, b": ");
-        io::write_all(libc::STDERR_FILENO, path);
-        os::fail(b": it is not whole, and can't be removed");
+fn remove(rt: &HostRuntime, name: &[u8], path: &str) {
+    if let Err(error) = fs::remove_file(rt, path) {
+        let text = InlineText::<REASON>::of(error);
+        say(rt, name);
+        say(rt, b": ");
+        say(rt, path.as_bytes());
+        say(rt, b": it is not whole, and can't be removed: ");
+        say(rt, reason(text.as_str()).as_bytes());
+        say(rt, b"\n");
     }
 }
 
 // Makes the file, which must not exist yet. One that can't be written whole is removed again.
-fn make_file(name: &[u8], path: &[u8], text: &[u8]) -> bool {
-    let fd = os::create(path);
-    if fd < 0 {
-        failed(name, path);
-        return false;
+fn make_file(rt: &HostRuntime, name: &[u8], path: &str, text: &[u8]) -> bool {
+    let opened = File::options().write(true).create_new(true).open(rt, path);
+    match opened {
+        Ok(file) => {
+            if put_and_close(rt, name, file, path.as_bytes(), text) {
+                return true;
+            }
+            remove(rt, name, path);
+            false
+        }
+        Err(error) => {
+            failed(rt, name, path.as_bytes(), error);
+            false
+        }
     }
-    if put_and_close(name, fd, path, text) {
-        return true;
-    }
-    remove(name, path);
-    false
 }
 
-// Whether argument i can name a new file. One that is empty, or longer than a name can be, is told.
-pub fn names_file(name: &[u8], i: usize) -> bool {
-    let mut path = io::buffer();
-    let n = os::arg(i, &mut path);
-    if os::errno() != 0 {
-        failed(name, b"the new file's name");
-        return false;
+// Whether argument i can name a new file. One that is empty, longer than a name can be or no text is told.
+pub fn names_file(rt: &HostRuntime, name: &[u8], i: usize) -> bool {
+    let mut buf = [0; 4096];
+    match named(rt, i, &mut buf) {
+        Ok(path) => {
+            if path.is_empty() {
+                told(rt, name, b"the new file's name", b"it is empty");
+                return false;
+            }
+            true
+        }
+        Err(error) => {
+            failed(rt, name, b"the new file's name", error);
+            false
+        }
     }
-    if n == 0 {
-        told(name, b"the new file's name", b"it is empty");
-        return false;
-    }
-    true
 }
 
 // Writes a text to the new file that argument i names, and answers whether the file is there with all of it. What goes
 // wrong is told, and then a file that was made is removed. What stands under that name already is left alone.
-pub fn write_new(name: &[u8], i: usize, text: &[u8]) -> bool {
-    let mut path = io::buffer();
-    let n = os::arg(i, &mut path);
-    if os::errno() != 0 {
-        failed(name, b"the new file's name");
-        return false;
+pub fn write_new(rt: &HostRuntime, name: &[u8], i: usize, text: &[u8]) -> bool {
+    let mut buf = [0; 4096];
+    match named(rt, i, &mut buf) {
+        Ok(path) => make_file(rt, name, path, text),
+        Err(error) => {
+            failed(rt, name, b"the new file's name", error);
+            false
+        }
     }
-    make_file(name, &path[..n], text)
 }
 
 // The usage: asked for, on standard output; after a wrong use, on standard error.
-pub fn usage(name: &[u8], wrong: bool, text: &[u8]) {
+pub fn usage(rt: &HostRuntime, name: &[u8], wrong: bool, text: &[u8]) {
     if wrong {
-        io::write_all(libc::STDERR_FILENO, text);
+        say(rt, text);
         return;
     }
-    print(name, text);
+    print(rt, name, text);
 }

@@ -1,98 +1,116 @@
-// Bytes from and to a descriptor, as far as they go.
+// Bytes from a reader and to a writer, as far as they go.
 ghost use Rattle.std.specs.Prelude.{◌≤◌, length};
-ghost use Rattle.io.specs.Counts.{IsPrefixLen};
+ghost use Rattle.program.specs.Counts.{IsPrefixLen};
 
-// How many bytes were moved, and whether no call failed: errno says something only if one did.
-#[derive(Drop)]
+use std::io::{Error, ErrorKind, Read, Result, Write};
+
+// How many bytes were moved, and whether no call failed.
+#[derive(Clone, Copy)]
 pub struct Transfer {
     pub ok: bool,
     pub moved: usize,
 }
 
-#[derive(Drop)]
+// How many bytes were moved, and the error of the call that failed, if one did.
+#[derive(Clone, Copy)]
+pub(crate) struct Moved {
+    pub(crate) error: Option<Error>,
+    pub(crate) moved: usize,
+}
+
+#[derive(Clone, Copy)]
 struct Turn {
-    ok: bool,
+    error: Option<Error>,
     more: bool,
     moved: usize,
 }
 
 // What a read or a write of part answered. One that a signal interrupted is made again.
-fn after(got: isize, part: &[u8]) -> Turn
+fn after(got: Result<usize>, part: &[u8]) -> Turn
     ensures { result.moved ≤ length part.now }
 {
-    if got < 0 {
-        let interrupted = os::errno() == libc::EINTR;
-        return Turn {
-            ok: interrupted,
-            more: interrupted,
-            moved: 0,
-        };
-    }
-    let n = io::count(got, part);
-    Turn {
-        ok: true,
-        more: 0 < n,
-        moved: n,
+    match got {
+        Ok(n) => Turn {
+            error: None,
+            more: 0 < n,
+            moved: n.min(part.len()),
+        },
+        Err(error) => {
+            if error.kind() == ErrorKind::Interrupted {
+                return Turn {
+                    error: None,
+                    more: true,
+                    moved: 0,
+                };
+            }
+            Turn {
+                error: Some(error),
+                more: false,
+                moved: 0,
+            }
+        }
     }
 }
 
-fn read_some(fd: i32, part: &mut [u8]) -> Turn
+fn read_some<R: Read>(from: &mut R, part: &mut [u8]) -> Turn
     ensures { result.moved ≤ length part.old }
 {
-    let got = libc::read(fd, part);
+    let got = from.read(part);
     after(got, part)
 }
 
-fn write_some(fd: i32, part: &[u8]) -> Turn
+fn write_some<W: Write>(to: &mut W, part: &[u8]) -> Turn
     ensures { result.moved ≤ length part.now }
 {
-    let got = libc::write(fd, part);
+    let got = to.write(part);
     after(got, part)
 }
 
 // Reads until buf is full, the input ends (a read gives nothing) or a read fails. A proved loop has to end, and nothing says
-// that the interruptions do: so the turns are counted down, from a number that no run uses up.
-pub fn read_all(fd: i32, buf: &mut [u8]) -> Transfer
+// that the interruptions do: so the turns are bounded, by a number that no run uses up.
+pub(crate) fn read_all<R: Read>(from: &mut R, buf: &mut [u8]) -> Moved
     ensures { IsPrefixLen result.moved buf.new }
 {
     let mut done = 0;
-    let mut turns = u64::MAX;
-    while done < buf.len() && 0 < turns {
-        let t = read_some(fd, &mut buf[done..]);
+    for _ in 0..u64::MAX {
+        if buf.len() <= done {
+            break;
+        }
+        let t = read_some(from, &mut buf[done..]);
         if !t.more {
-            return Transfer {
-                ok: t.ok,
+            return Moved {
+                error: t.error,
                 moved: done,
             };
         }
         done += t.moved;
-        turns -= 1;
     }
-    Transfer {
-        ok: true,
+    Moved {
+        error: None,
         moved: done,
     }
 }
 
 // Writes until all is written, nothing more is taken (a write takes nothing) or a write fails.
-pub fn write_all(fd: i32, text: &[u8]) -> Transfer
+pub(crate) fn write_all<W: Write>(to: &mut W, text: &[u8]) -> Moved
     ensures { result.moved ≤ length text.now }
 {
     let mut done = 0;
-    let mut turns = u64::MAX;
-    while done < text.len() && 0 < turns {
-        let t = write_some(fd, &text[done..]);
+    for _ in 0..u64::MAX {
+        if text.len() <= done {
+            break;
+        }
+        let t = write_some(to, &text[done..]);
         if !t.more {
-            return Transfer {
-                ok: t.ok,
+            return Moved {
+                error: t.error,
                 moved: done,
             };
         }
         done += t.moved;
-        turns -= 1;
     }
-    Transfer {
-        ok: true,
+    Moved {
+        error: None,
         moved: done,
     }
 }

@@ -5,12 +5,14 @@
 // The log is the file, or standard input. The board is reset with the settings of a record, or with document 01's. A record
 // that is refused is said, and no log is read. At most 65,536 bytes are taken; of a longer log the program says only
 // `too long`.
+#![tactic(auto)]
+
 ghost use Rattle.std.specs.Prelude.{◌≡◌, true, ◌≤◌, length};
 ghost use Rattle.lines.specs.Put.{over};
 ghost use Rattle.board.specs.Formed.{well_formed};
 ghost use Rattle.settings.specs.Settings.{in_range};
 ghost use Rattle.board.specs.State.{reset_to};
-ghost use Rattle.log.specs.Output.{output_from, output_of, output_with, accepts};
+ghost use Rattle.event_log.specs.Output.{output_from, output_of, output_with, accepts};
 
 use answers::Answer;
 use board::Board;
@@ -83,88 +85,89 @@ fn accepts(bytes: &[u8]) -> bool
     }
 }
 
-fn print(text: &[u8]) {
-    program::print(b"replay", text);
+fn print(rt: &HostRuntime, text: &[u8]) {
+    program::print(rt, b"replay", text);
 }
 
-fn answer(log: &[u8]) {
+fn answer(rt: &HostRuntime, log: &[u8]) {
     let mut out = room();
     let n = output(log, &mut out);
-    print(&out[..n]);
+    print(rt, &out[..n]);
 }
 
-fn answer_with(bytes: &[u8], log: &[u8]) {
+fn answer_with(rt: &HostRuntime, bytes: &[u8], log: &[u8]) {
     let mut out = room();
     let n = output_with(bytes, log, &mut out);
-    print(&out[..n]);
+    print(rt, &out[..n]);
 }
 
 // One byte more than is taken is read, to tell a longer log.
-fn run() {
+fn run(rt: &HostRuntime) {
     let mut log = [0u8; 65537];
-    let read = program::read_input(b"replay", 1, &mut log);
+    let read = program::read_input(rt, b"replay", 1, &mut log);
     if !read.ok {
         return;
     }
     let n = read.moved;
-    answer(&log[..n]);
+    answer(rt, &log[..n]);
 }
 
 // A record that is refused says all that there is to say without a log.
-fn run_on(bytes: &[u8]) {
+fn run_on(rt: &HostRuntime, bytes: &[u8]) {
     if !accepts(bytes) {
-        answer_with(bytes, b"");
+        answer_with(rt, bytes, b"");
         return;
     }
     let mut log = [0u8; 65537];
-    let read = program::read_input(b"replay", 3, &mut log);
+    let read = program::read_input(rt, b"replay", 3, &mut log);
     if !read.ok {
         return;
     }
     let n = read.moved;
-    answer_with(bytes, &log[..n]);
+    answer_with(rt, bytes, &log[..n]);
 }
 
 // One byte more than a record has is read, to tell a longer one.
-fn run_with() {
+fn run_with(rt: &HostRuntime) {
     let mut record = [0u8; 23];
-    let read = program::read_input(b"replay", 2, &mut record);
+    let read = program::read_input(rt, b"replay", 2, &mut record);
     if !read.ok {
         return;
     }
     let n = read.moved;
-    run_on(&record[..n]);
+    run_on(rt, &record[..n]);
 }
 
 // Asked for, or after a wrong use.
-fn usage(wrong: bool) {
+fn usage(rt: &HostRuntime, wrong: bool) {
     program::usage(
+        rt,
         b"replay",
         wrong,
         b"usage: replay [--settings FILE] [FILE]\nReplays an event log on a board from reset, and prints a line for each record.\nFILE is the log, of at most 65,536 bytes; no FILE or - is standard input.\n--settings resets the board with the settings of a record, which is a file too, or -\nif the log is none.\n",
     );
 }
 
-fn with_settings() {
-    if !program::two_inputs(2) {
-        usage(true);
+fn with_settings(rt: &HostRuntime) {
+    if !program::two_inputs(rt, 2) {
+        usage(rt, true);
         return;
     }
-    run_with();
+    run_with(rt);
 }
 
-fn main() {
-    if program::asks_help() {
-        usage(false);
+fn main(rt: HostRuntime) {
+    if program::asks_help(&rt) {
+        usage(&rt, false);
         return;
     }
-    if program::says(1, b"--settings") {
-        with_settings();
+    if program::says(&rt, 1, b"--settings") {
+        with_settings(&rt);
         return;
     }
-    if !program::one_input(1) {
-        usage(true);
+    if !program::one_input(&rt, 1) {
+        usage(&rt, true);
         return;
     }
-    run();
+    run(&rt);
 }

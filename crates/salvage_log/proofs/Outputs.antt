@@ -25,9 +25,9 @@ Promised s k k' o o' makes kept text = ((text ≡ length (output_of s)) × (o' �
 -- ---- at most 262,144 bytes are taken, and of a longer log it prints only `too long` and makes no file
 
 module _ (s : List ℕ) where
-  pub too_long : 262144 < length s → (output_of s ≡ too_long) × (takes s ≡ false)
+  pub too-long : 262144 < length s → (output_of s ≡ too_long) × (takes s ≡ false)
   unfolding output_of
-  too_long h = let e = lt-ltb 262144 (length s) h in (rw e, rw e)
+  too-long h = let e = lt-ltb 262144 (length s) h in (rw e, rw e)
 
   pub turned_down : 262144 < length s → (k o o' : List ℕ) (n : ℕ) → Put too_long o 0 o' n → Promised s k k o o' false 0 n
   unfolding output_of file_of

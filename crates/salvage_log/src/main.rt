@@ -5,6 +5,8 @@
 // The log is the file, or standard input where FILE is `-`. At most 262,144 bytes are taken; of a longer log the
 // program says only `too long`, and makes no file. OUT is made before anything is printed; what exists already is left
 // alone.
+#![tactic(auto)]
+
 mod report;
 
 ghost use Rattle.std.specs.Prelude.{◌≡◌, ◌≤◌, length};
@@ -14,7 +16,7 @@ ghost use Rattle.salvage_log.specs.Output.{takes, output_of, file_of};
 use salvage::Salvaged;
 
 // What is written for a log: whether a file is made, and how many bytes it and the text have.
-#[derive(Drop)]
+#[derive(Clone, Copy)]
 struct Sizes {
     makes: bool,
     kept: usize,
@@ -88,60 +90,61 @@ fn output(log: &[u8], kept: &mut [u8], list: &mut [u64], out: &mut [u8]) -> Size
     }
 }
 
-fn print(text: &[u8]) {
-    program::print(b"salvage", text);
+fn print(rt: &HostRuntime, text: &[u8]) {
+    program::print(rt, b"salvage", text);
 }
 
 // Makes the new file, or tells why not.
-fn make(kept: &[u8]) -> bool {
-    program::write_new(b"salvage", 2, kept)
+fn make(rt: &HostRuntime, kept: &[u8]) -> bool {
+    program::write_new(rt, b"salvage", 2, kept)
 }
 
-fn answer(log: &[u8]) {
+fn answer(rt: &HostRuntime, log: &[u8]) {
     let mut kept = kept_room();
     let mut list = list_room();
     let mut out = text_room();
     let output = output(log, &mut kept, &mut list, &mut out);
     if output.makes {
         let n = output.kept;
-        if !make(&kept[..n]) {
+        if !make(rt, &kept[..n]) {
             return;
         }
     }
     let n = output.text;
-    print(&out[..n]);
+    print(rt, &out[..n]);
 }
 
-fn run() {
+fn run(rt: &HostRuntime) {
     let mut log = log_room();
-    let read = program::read_input(b"salvage", 1, &mut log);
+    let read = program::read_input(rt, b"salvage", 1, &mut log);
     if !read.ok {
         return;
     }
     let n = read.moved;
-    answer(&log[..n]);
+    answer(rt, &log[..n]);
 }
 
 // Asked for, or after a wrong use.
-fn usage(wrong: bool) {
+fn usage(rt: &HostRuntime, wrong: bool) {
     program::usage(
+        rt,
         b"salvage",
         wrong,
         b"usage: salvage FILE OUT\nCopies the records that a damaged event log still has to the new file OUT, and\nprints a line for each stretch that was skipped, and how many records were kept.\nFILE is the log, of at most 262,144 bytes; - is standard input.\nOUT must not exist yet.\n",
     );
 }
 
-fn main() {
-    if program::asks_help() {
-        usage(false);
+fn main(rt: HostRuntime) {
+    if program::asks_help(&rt) {
+        usage(&rt, false);
         return;
     }
-    if !program::input_and_file(1) {
-        usage(true);
+    if !program::input_and_file(&rt, 1) {
+        usage(&rt, true);
         return;
     }
-    if !program::names_file(b"salvage", 2) {
+    if !program::names_file(&rt, b"salvage", 2) {
         return;
     }
-    run();
+    run(&rt);
 }

@@ -1,6 +1,6 @@
 -- The output, by the reading of the record, the telling's answer and the length of the log.
 use mathlib.Core.Path.{◌≡◌, refl, sym, ap, ◌∙◌}
-use mathlib.Core.List.{List, [], ◌∷◌}
+use mathlib.Core.List.{List, []}
 use mathlib.Core.Bool.{Bool, true, false, ◌&&◌}
 use Prim.Native.Nat.{ℕ, ◌<◌, ◌≤◌}
 use native.Mathlib.Decide.{dec_lt}
@@ -9,10 +9,7 @@ use lib.Dec.{eqb}
 use lib.ListN.{length, take, get_or}
 use lib.Seq.{length-take-le}
 use borrow.Author.Tests.{lt-ltb, le-ltb}
-use denote.Enum.Declared.{tag_of}
-use types.Run.{OneOf, miss}
 use Rattle.pins.proofs.Bools.{clash}
-use Rattle.answers.specs.contracts.Answer as A
 use Rattle.answers.specs.declared.Answer.{Answer}
 use Rattle.answers.specs.declared.Answer.TheVariants as answer
 use Rattle.answers.specs.declared.Refusal.{Refusal}
@@ -63,22 +60,22 @@ module _ (s : List ℕ) (m : Mill) where
 -- ---- after the telling
 
 -- every answer but a refusal
-not-refused : (s : List ℕ) (m : Mill) (a : Answer) → OneOf (0 ∷ 1 ∷ 2 ∷ 3 ∷ 4 ∷ []) (tag_of A.the_type a) → after_telling s m a ≡ played_of s m
+not-refused : (s : List ℕ) (m : Mill) (a : Answer) → ((x : Refusal) → a ≡ answer.Refused x → ⊥) → after_telling s m a ≡ played_of s m
 unfolding after_telling
 not-refused s m answer.Done k = refl
 not-refused s m (answer.Value v) k = refl
 not-refused s m (answer.Fired x y z) k = refl
 not-refused s m (answer.Interrupt p v d l) k = refl
 not-refused s m answer.Nothing k = refl
-not-refused s m (answer.Refused r) k = absurd (miss (0 ∷ 1 ∷ 2 ∷ 3 ∷ 4 ∷ []) 5 tt k)
+not-refused s m (answer.Refused r) k = absurd (k r refl)
 
-pub is-done : (a : Answer) → OneOf (0 ∷ 1 ∷ 2 ∷ 3 ∷ 4 ∷ []) (tag_of A.the_type a) → true ≡ is_done a
+pub is-done : (a : Answer) → ((x : Refusal) → a ≡ answer.Refused x → ⊥) → true ≡ is_done a
 is-done answer.Done k = refl
 is-done (answer.Value v) k = refl
 is-done (answer.Fired x y z) k = refl
 is-done (answer.Interrupt p v d l) k = refl
 is-done answer.Nothing k = refl
-is-done (answer.Refused r) k = absurd (miss (0 ∷ 1 ∷ 2 ∷ 3 ∷ 4 ∷ []) 5 tt k)
+is-done (answer.Refused r) k = absurd (k r refl)
 
 module _ (z : Settings) (pin : ℕ) (s : List ℕ) where
   pub told-well : in_range z ≡ true → (t : MillTurn) → t ≡ told_from z pin → well_formed t.mill ≡ true
@@ -92,7 +89,7 @@ module _ (z : Settings) (pin : ℕ) (s : List ℕ) where
   unfolding after_telling
   turned_down t e r a o o' n p = whole_same (refused_of r) o o' n (output_from z pin s) (sym (ap (after_telling s t.mill) a) ∙ by_turn t e) (put_whole (refused_of r) o o' n p)
 
-  pub accepted : (t : MillTurn) → t ≡ told_from z pin → OneOf (0 ∷ 1 ∷ 2 ∷ 3 ∷ 4 ∷ []) (tag_of A.the_type t.answer) → (o o' : List ℕ) (n : ℕ) → Whole (played_of s t.mill) o o' n → Whole (output_from z pin s) o o' n
+  pub accepted : (t : MillTurn) → t ≡ told_from z pin → ((x : Refusal) → t.answer ≡ answer.Refused x → ⊥) → (o o' : List ℕ) (n : ℕ) → Whole (played_of s t.mill) o o' n → Whole (output_from z pin s) o o' n
   accepted t e k o o' n w = whole_same (played_of s t.mill) o o' n (output_from z pin s) (sym (not-refused s t.mill t.answer k) ∙ by_turn t e) w
 
 -- document 01's settings
@@ -105,14 +102,14 @@ standard-ranged z e = ap in_range e ∙ standard-in-range
 -- ---- after the reading
 
 -- every answer but a refusal
-not-rejected : (pin : ℕ) (s : List ℕ) (z : Settings) (a : Answer) → OneOf (0 ∷ 1 ∷ 2 ∷ 3 ∷ 4 ∷ []) (tag_of A.the_type a) → output_from z pin s ≡ after_reading pin s z a
+not-rejected : (pin : ℕ) (s : List ℕ) (z : Settings) (a : Answer) → ((x : Refusal) → a ≡ answer.Refused x → ⊥) → output_from z pin s ≡ after_reading pin s z a
 unfolding after_reading
 not-rejected pin s z answer.Done k = refl
 not-rejected pin s z (answer.Value v) k = refl
 not-rejected pin s z (answer.Fired x y w) k = refl
 not-rejected pin s z (answer.Interrupt p v d l) k = refl
 not-rejected pin s z answer.Nothing k = refl
-not-rejected pin s z (answer.Refused r) k = absurd (miss (0 ∷ 1 ∷ 2 ∷ 3 ∷ 4 ∷ []) 5 tt k)
+not-rejected pin s z (answer.Refused r) k = absurd (k r refl)
 
 module _ (r : List ℕ) (pin : ℕ) (s : List ℕ) (t : Reading) (e : t ≡ read_of r) where
   pub read-ranged : in_range t.settings ≡ true
@@ -126,7 +123,7 @@ module _ (r : List ℕ) (pin : ℕ) (s : List ℕ) (t : Reading) (e : t ≡ read
   unfolding after_reading
   rejected x a o o' n p = whole_same (settings_refused_of x) o o' n (output_with r pin s) (sym (ap (after_reading pin s t.settings) a) ∙ by-reading) (put_whole (settings_refused_of x) o o' n p)
 
-  pub settled : OneOf (0 ∷ 1 ∷ 2 ∷ 3 ∷ 4 ∷ []) (tag_of A.the_type t.answer) → (o o' : List ℕ) (n : ℕ) → Whole (output_from t.settings pin s) o o' n → Whole (output_with r pin s) o o' n
+  pub settled : ((x : Refusal) → t.answer ≡ answer.Refused x → ⊥) → (o o' : List ℕ) (n : ℕ) → Whole (output_from t.settings pin s) o o' n → Whole (output_with r pin s) o o' n
   settled k o o' n w = whole_same (output_from t.settings pin s) o o' n (output_with r pin s) (not-rejected pin s t.settings t.answer k ∙ by-reading) w
 
 module _ (r : List ℕ) (pin : ℕ) (t : Reading) (e : t ≡ read_of r) where
@@ -136,7 +133,7 @@ module _ (r : List ℕ) (pin : ℕ) (t : Reading) (e : t ≡ read_of r) where
   pub untaken : (x : Refusal) → t.answer ≡ answer.Refused x → false ≡ takes_with r pin
   untaken x a = sym (ap (λ (y : Answer). is_done y && takes_from t.settings pin) a) ∙ both
 
-  pub by-pin : OneOf (0 ∷ 1 ∷ 2 ∷ 3 ∷ 4 ∷ []) (tag_of A.the_type t.answer) → takes_from t.settings pin ≡ takes_with r pin
+  pub by-pin : ((x : Refusal) → t.answer ≡ answer.Refused x → ⊥) → takes_from t.settings pin ≡ takes_with r pin
   by-pin k = ap (λ (b : Bool). b && takes_from t.settings pin) (is-done t.answer k) ∙ both
 
 -- ---- what that says: any pin above 23 prints `refused 3`, whatever the log; any other prints `too long`, or the text

@@ -6,6 +6,8 @@
 // The log is the file, or standard input. The mill is reset with the settings of a record, or with document 01's. A record
 // that is refused, or a PIN above 23, is said, and no log is read. At most 65,536 bytes are taken; of a longer log the
 // program says only `too long`.
+#![tactic(auto)]
+
 ghost use Rattle.std.specs.Prelude.{◌≡◌, true, ◌≤◌, length};
 ghost use Rattle.lines.specs.Put.{over};
 ghost use Rattle.mill.specs.Mill.{well_formed};
@@ -107,66 +109,67 @@ fn takes_with(bytes: &[u8], pin: u64) -> bool
     }
 }
 
-fn print(text: &[u8]) {
-    program::print(b"screen", text);
+fn print(rt: &HostRuntime, text: &[u8]) {
+    program::print(rt, b"screen", text);
 }
 
-fn answer(pin: u64, log: &[u8]) {
+fn answer(rt: &HostRuntime, pin: u64, log: &[u8]) {
     let mut out = room();
     let n = output(pin, log, &mut out);
-    print(&out[..n]);
+    print(rt, &out[..n]);
 }
 
-fn answer_with(bytes: &[u8], pin: u64, log: &[u8]) {
+fn answer_with(rt: &HostRuntime, bytes: &[u8], pin: u64, log: &[u8]) {
     let mut out = room();
     let n = output_with(bytes, pin, log, &mut out);
-    print(&out[..n]);
+    print(rt, &out[..n]);
 }
 
 // One byte more than is taken is read, to tell a longer log.
-fn run(pin: u64) {
+fn run(rt: &HostRuntime, pin: u64) {
     let mut log = [0u8; 65537];
     if !takes(Settings::standard(), pin) {
-        answer(pin, b"");
+        answer(rt, pin, b"");
         return;
     }
-    let read = program::read_input(b"screen", 2, &mut log);
+    let read = program::read_input(rt, b"screen", 2, &mut log);
     if !read.ok {
         return;
     }
     let n = read.moved;
-    answer(pin, &log[..n]);
+    answer(rt, pin, &log[..n]);
 }
 
 // The same with a settings record.
-fn run_with(bytes: &[u8], pin: u64) {
+fn run_with(rt: &HostRuntime, bytes: &[u8], pin: u64) {
     let mut log = [0u8; 65537];
     if !takes_with(bytes, pin) {
-        answer_with(bytes, pin, b"");
+        answer_with(rt, bytes, pin, b"");
         return;
     }
-    let read = program::read_input(b"screen", 4, &mut log);
+    let read = program::read_input(rt, b"screen", 4, &mut log);
     if !read.ok {
         return;
     }
     let n = read.moved;
-    answer_with(bytes, pin, &log[..n]);
+    answer_with(rt, bytes, pin, &log[..n]);
 }
 
 // One byte more than a record has is read, to tell a longer one.
-fn run_from(pin: u64) {
+fn run_from(rt: &HostRuntime, pin: u64) {
     let mut record = [0u8; 23];
-    let read = program::read_input(b"screen", 2, &mut record);
+    let read = program::read_input(rt, b"screen", 2, &mut record);
     if !read.ok {
         return;
     }
     let n = read.moved;
-    run_with(&record[..n], pin);
+    run_with(rt, &record[..n], pin);
 }
 
 // Asked for, or after a wrong use.
-fn usage(wrong: bool) {
+fn usage(rt: &HostRuntime, wrong: bool) {
     program::usage(
+        rt,
         b"screen",
         wrong,
         b"usage: screen [--settings FILE] PIN [FILE]\nReplays an event log on a board from reset, and prints a line for each record\nand for each word of the pause screen: running, asked, taken, paused.\nPIN is the pause key's pin, a decimal number from 0 to 23.\nFILE is the log, of at most 65,536 bytes; no FILE or - is standard input.\nThe FILE of --settings is a settings record of 22 bytes, with which the board is\nreset; it is standard input for -, if the log is a file.\n",
@@ -183,57 +186,57 @@ fn is_option(text: &[u8]) -> bool
     text[0] == b'-'
 }
 
-fn option_at(i: usize) -> bool {
-    let mut text = io::buffer();
-    let n = os::arg(i, &mut text);
+fn option_at(rt: &HostRuntime, i: usize) -> bool {
+    let mut text = [0; 4096];
+    let n = program::arg(rt, i, &mut text);
     is_option(&text[..n])
 }
 
 // Whether argument 2 names a record and argument 4 a log: they can't both be standard input.
-fn two_inputs() -> bool {
-    if option_at(2) {
+fn two_inputs(rt: &HostRuntime) -> bool {
+    if option_at(rt, 2) {
         return false;
     }
-    if program::says(2, b"-") {
-        return program::one_file(4);
+    if program::says(rt, 2, b"-") {
+        return program::one_file(rt, 4);
     }
-    program::one_input(4)
+    program::one_input(rt, 4)
 }
 
-fn with_settings() {
-    let pin = program::number_at(3);
+fn with_settings(rt: &HostRuntime) {
+    let pin = program::number_at(rt, 3);
     if !pin.ok {
-        usage(true);
+        usage(rt, true);
         return;
     }
-    if !two_inputs() {
-        usage(true);
+    if !two_inputs(rt) {
+        usage(rt, true);
         return;
     }
-    run_from(pin.value);
+    run_from(rt, pin.value);
 }
 
-fn without() {
-    let pin = program::number_at(1);
+fn without(rt: &HostRuntime) {
+    let pin = program::number_at(rt, 1);
     if !pin.ok {
-        usage(true);
+        usage(rt, true);
         return;
     }
-    if !program::one_input(2) {
-        usage(true);
+    if !program::one_input(rt, 2) {
+        usage(rt, true);
         return;
     }
-    run(pin.value);
+    run(rt, pin.value);
 }
 
-fn main() {
-    if program::asks_help() {
-        usage(false);
+fn main(rt: HostRuntime) {
+    if program::asks_help(&rt) {
+        usage(&rt, false);
         return;
     }
-    if program::says(1, b"--settings") {
-        with_settings();
+    if program::says(&rt, 1, b"--settings") {
+        with_settings(&rt);
         return;
     }
-    without();
+    without(&rt);
 }

@@ -1,16 +1,13 @@
 -- What is shown and what is made, by the answers and by the tests of the numbers.
 use mathlib.Core.Path.{◌≡◌, refl, sym, ap, ◌∙◌}
-use mathlib.Core.List.{List, [], ◌∷◌, ◌++◌, append-nil}
+use mathlib.Core.List.{List, ◌++◌, append-nil}
 use mathlib.Core.Bool.{true, false, ◌&&◌}
 use Prim.Native.Nat.{ℕ, ◌<◌, ◌≤◌, ◌^◌}
 use native.Mathlib.Omega.{arith}
 use lib.Dec.{ltb}
-use lib.ListN.{length, drop, drop_of_length-le}
+use lib.ListN.{length, drop_of_length-le}
 use borrow.Author.Tests.{ltb-true, lt-ltb}
-use denote.Enum.Declared.{tag_of}
-use types.Run.{OneOf, miss}
 use Rattle.pins.proofs.Bools.{and_left, and_right, and_both}
-use Rattle.answers.specs.contracts.Answer as A
 use Rattle.answers.specs.declared.Answer.{Answer}
 use Rattle.answers.specs.declared.Answer.TheVariants as answer
 use Rattle.answers.specs.declared.Refusal.{Refusal}
@@ -36,16 +33,16 @@ module _ (x : Settings) (o o' : List ℕ) (n : ℕ) where
   said-refused a r e p = whole_same (refused_of r) o o' n (said_of x a) (sym (ap (said_of x) e)) (put_whole (refused_of r) o o' n p)
 
   -- every answer but a refusal
-  not-refused : (a : Answer) → OneOf (0 ∷ 1 ∷ 2 ∷ 3 ∷ 4 ∷ []) (tag_of A.the_type a) → text_of x ≡ said_of x a
+  not-refused : (a : Answer) → ((r : Refusal) → a ≡ answer.Refused r → ⊥) → text_of x ≡ said_of x a
   unfolding said_of
   not-refused answer.Done k = refl
   not-refused (answer.Value v) k = refl
   not-refused (answer.Fired a b c) k = refl
   not-refused (answer.Interrupt p v d l) k = refl
   not-refused answer.Nothing k = refl
-  not-refused (answer.Refused r) k = absurd (miss (0 ∷ 1 ∷ 2 ∷ 3 ∷ 4 ∷ []) 5 tt k)
+  not-refused (answer.Refused r) k = absurd (k r refl)
 
-  pub said-text : (a : Answer) → OneOf (0 ∷ 1 ∷ 2 ∷ 3 ∷ 4 ∷ []) (tag_of A.the_type a) → Put (text_of x) o 0 o' n → Whole (said_of x a) o o' n
+  pub said-text : (a : Answer) → ((r : Refusal) → a ≡ answer.Refused r → ⊥) → Put (text_of x) o 0 o' n → Whole (said_of x a) o o' n
   said-text a k p = whole_same (text_of x) o o' n (said_of x a) (not-refused a k) (put_whole (text_of x) o o' n p)
 
 pub shown-so : (s : List ℕ) (r : Reading) → r ≡ read_of s → said_of r.settings r.answer ≡ shown_of s

@@ -16,7 +16,7 @@ use Rattle.lines.proofs.Listings.{no-refusal}
 use Rattle.program.specs.Number.{capped, most}
 use Rattle.program.proofs.Numbers.{capped_small, capped-great}
 use Rattle.settings.specs.declared.Reading.{Reading}
-use Rattle.settings.specs.Record.{record_of, read_of}
+use Rattle.settings.specs.Record.{record_of}
 use Rattle.settings.proofs.Told.{bad-length}
 use Rattle.settings.proofs.Ranges.{Ranged, ranged-in, ranged-out}
 use Rattle.settings.proofs.RoundTrip.{read-record}

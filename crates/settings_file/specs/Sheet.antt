@@ -2,7 +2,7 @@
 use Rattle.std.specs.Prelude.{ℕ, ◌≡◌, refl, List, [], ◌∷◌, ◌++◌, map}
 use Rattle.answers.specs.Numbers.{number_of}
 use Rattle.lines.specs.Number.{digits, decimal_in, decimal}
-use Rattle.lines.specs.Line.{said_of as answerSaid, refused_of}
+use Rattle.lines.specs.Line.{said_of as answer_said, refused_of}
 use Rattle.lines.specs.Listing.{head_of, masks_of, text_of}
 use Rattle.little_endian.specs.Numbers.{u16_at, u32_at, bytes16, bytes32}
 use Rattle.settings.specs.Settings.{vendor_ok, period_ok, mask_ok, id_ok, in_range}
@@ -80,7 +80,7 @@ records =
     ∷ []
 
 pub records-hold : map (λ l. shown l.bytes (shown_of l.bytes)) records ≡ records
-unfolding records shown_of said_of read_of marked settings_at u16_at u32_at in_range vendor_ok period_ok mask_ok id_ok refused_of answerSaid number_of text_of head_of masks_of digits decimal decimal_in
+unfolding records shown_of said_of read_of marked settings_at u16_at u32_at in_range vendor_ok period_ok mask_ok id_ok refused_of answer_said number_of text_of head_of masks_of digits decimal decimal_in
 records-hold = refl
 
 -- ---- make
@@ -114,5 +114,5 @@ numbers =
     ∷ []
 
 pub numbers-hold : map (λ l. made l.numbers (made_of l.numbers) (file_of l.numbers)) numbers ≡ numbers
-unfolding numbers made_of file_of takes fits record_of bytes16 bytes32 in_range vendor_ok period_ok mask_ok id_ok refused_of answerSaid number_of text_of head_of masks_of digits decimal decimal_in
+unfolding numbers made_of file_of takes fits record_of bytes16 bytes32 in_range vendor_ok period_ok mask_ok id_ok refused_of answer_said number_of text_of head_of masks_of digits decimal decimal_in
 numbers-hold = refl

@@ -5,6 +5,8 @@
 //
 // A record that is refused prints only `refused R`, and a number that is too large for its field or out of range only
 // `refused 10`: then no file is made. OUT is made before anything is printed; what exists already is left alone.
+#![tactic(auto)]
+
 ghost use Rattle.std.specs.Prelude.{◌≡◌, true, ◌≤◌, length};
 ghost use Rattle.lines.specs.Put.{over};
 ghost use Rattle.settings_file.specs.Output.{said_of, shown_of, fits, settings_of, takes, made_of, file_of};
@@ -13,7 +15,7 @@ use answers::{Answer, Refusal};
 use settings::Settings;
 
 // Six numbers, as the arguments say them.
-#[derive(Drop)]
+#[derive(Clone, Copy)]
 struct Asked {
     vendor: u64,
     period: u64,
@@ -24,7 +26,7 @@ struct Asked {
 }
 
 // What is written for them: whether a file is made, and how many bytes it and the text have.
-#[derive(Drop)]
+#[derive(Clone, Copy)]
 struct Sizes {
     makes: bool,
     file: usize,
@@ -113,104 +115,108 @@ fn made(asked: Asked, file: &mut [u8], out: &mut [u8]) -> Sizes
     }
 }
 
-fn print(text: &[u8]) {
-    program::print(b"settings", text);
+fn print(rt: &HostRuntime, text: &[u8]) {
+    program::print(rt, b"settings", text);
 }
 
-fn show_record(bytes: &[u8]) {
+fn show_record(rt: &HostRuntime, bytes: &[u8]) {
     let mut out = [0u8; 128];
     let n = shown(bytes, &mut out);
-    print(&out[..n]);
+    print(rt, &out[..n]);
 }
 
 // One byte more than a record has is read, to tell a longer one.
-fn show() {
+fn show(rt: &HostRuntime) {
     let mut record = [0u8; 23];
-    let read = program::read_input(b"settings", 2, &mut record);
+    let read = program::read_input(rt, b"settings", 2, &mut record);
     if !read.ok {
         return;
     }
     let n = read.moved;
-    show_record(&record[..n]);
+    show_record(rt, &record[..n]);
 }
 
 // Makes the new file, or tells why not.
-fn make_file(bytes: &[u8]) -> bool {
-    program::write_new(b"settings", 8, bytes)
+fn make_file(rt: &HostRuntime, bytes: &[u8]) -> bool {
+    program::write_new(rt, b"settings", 8, bytes)
 }
 
-fn make(asked: Asked) {
+fn make(rt: &HostRuntime, asked: Asked) {
     let mut file = [0u8; 22];
     let mut out = [0u8; 128];
     let made = made(asked, &mut file, &mut out);
     if made.makes {
         let n = made.file;
-        if !make_file(&file[..n]) {
+        if !make_file(rt, &file[..n]) {
             return;
         }
     }
     let n = made.text;
-    print(&out[..n]);
+    print(rt, &out[..n]);
 }
 
 // Asked for, or after a wrong use.
-fn usage(wrong: bool) {
+fn usage(rt: &HostRuntime, wrong: bool) {
     program::usage(
+        rt,
         b"settings",
         wrong,
         b"usage: settings show [FILE]\n       settings make VENDOR PERIOD MASK0 MASK1 MASK2 ID OUT\nshow prints the settings that a record of 22 bytes has, a line for each number.\nFILE is the record; no FILE or - is standard input.\nmake writes the record of six numbers to the new file OUT, and prints the same.\nA number is decimal, or hexadecimal after 0x. VENDOR has 16 bits, PERIOD is 1 to\n100,000,000 femtoseconds, a mask is nonzero and below 2^24, ID is at most 15.\nOUT must not exist yet.\n",
     );
 }
 
-fn shows() {
-    if !program::one_input(2) {
-        usage(true);
+fn shows(rt: &HostRuntime) {
+    if !program::one_input(rt, 2) {
+        usage(rt, true);
         return;
     }
-    show();
+    show(rt);
 }
 
-fn makes() {
-    let vendor = program::either_at(2);
-    let period = program::either_at(3);
-    let mask0 = program::either_at(4);
-    let mask1 = program::either_at(5);
-    let mask2 = program::either_at(6);
-    let id = program::either_at(7);
+fn makes(rt: &HostRuntime) {
+    let vendor = program::either_at(rt, 2);
+    let period = program::either_at(rt, 3);
+    let mask0 = program::either_at(rt, 4);
+    let mask1 = program::either_at(rt, 5);
+    let mask2 = program::either_at(rt, 6);
+    let id = program::either_at(rt, 7);
     let numbers = vendor.ok & period.ok & mask0.ok & mask1.ok & mask2.ok & id.ok;
     if !numbers {
-        usage(true);
+        usage(rt, true);
         return;
     }
-    if !program::one_file(8) {
-        usage(true);
+    if !program::one_file(rt, 8) {
+        usage(rt, true);
         return;
     }
-    if !program::names_file(b"settings", 8) {
+    if !program::names_file(rt, b"settings", 8) {
         return;
     }
-    make(Asked {
-        vendor: vendor.value,
-        period: period.value,
-        mask0: mask0.value,
-        mask1: mask1.value,
-        mask2: mask2.value,
-        id: id.value,
-    });
+    make(
+        rt,
+        Asked {
+            vendor: vendor.value,
+            period: period.value,
+            mask0: mask0.value,
+            mask1: mask1.value,
+            mask2: mask2.value,
+            id: id.value,
+        },
+    );
 }
 
-fn main() {
-    if program::asks_help() {
-        usage(false);
+fn main(rt: HostRuntime) {
+    if program::asks_help(&rt) {
+        usage(&rt, false);
         return;
     }
-    if program::says(1, b"show") {
-        shows();
+    if program::says(&rt, 1, b"show") {
+        shows(&rt);
         return;
     }
-    if program::says(1, b"make") {
-        makes();
+    if program::says(&rt, 1, b"make") {
+        makes(&rt);
         return;
     }
-    usage(true);
+    usage(&rt, true);
 }

@@ -1,16 +1,17 @@
 // Advances by 4,294,967,295 ticks. Each line: the answer's number, the three counts, and what comparator 0 and the
 // counter read after it.
+#![tactic(auto)]
+
 ghost use Rattle.std.specs.Prelude.{◌<◌};
 
 use timers::{Timers, Turn};
 
-fn print(n: u64) {
-    io::print_decimal(1, n);
-    io::write_all(1, b" ");
+fn print(rt: &HostRuntime, n: u64) {
+    let _ = print!(rt; "{n} ");
 }
 
-fn print_count(n: u32) {
-    print(n as u64);
+fn print_count(rt: &HostRuntime, n: u32) {
+    print(rt, n as u64);
 }
 
 fn value(s: Timers, offset: u64) -> u64 {
@@ -20,18 +21,18 @@ fn value(s: Timers, offset: u64) -> u64 {
     n.value
 }
 
-fn show(r: Turn) -> Timers {
+fn show(rt: &HostRuntime, r: Turn) -> Timers {
     let s = r.timers;
     let answer = r.answer;
     let n = answer.numbers();
     let f = n.fired;
-    print_count(n.number);
-    print_count(f[0]);
-    print_count(f[1]);
-    print_count(f[2]);
-    print(value(s, 0x108));
-    io::print_decimal(1, value(s, 0x0F0));
-    io::write_all(1, b"\n");
+    print_count(rt, n.number);
+    print_count(rt, f[0]);
+    print_count(rt, f[1]);
+    print_count(rt, f[2]);
+    print(rt, value(s, 0x108));
+    let counter = value(s, 0x0F0);
+    let _ = println!(rt; "{counter}");
     s
 }
 
@@ -53,25 +54,25 @@ fn enabled(s: Timers) -> Timers {
     set(s, 0x010, 1)
 }
 
-fn main() {
+fn main(rt: HostRuntime) {
     let all: u32 = 4294967295;
     // nothing due
-    show(enabled(Timers::reset()).advance(all));
+    show(&rt, enabled(Timers::reset()).advance(all));
     // three timers of period 1, twice
     let a = periodic(Timers::reset(), 0x100, 0x48, 1, 1);
     let b = periodic(a, 0x120, 0x48, 1, 1);
     let c = periodic(b, 0x140, 0x48, 1, 1);
-    let d = show(enabled(c).advance(all));
-    show(d.advance(all));
+    let d = show(&rt, enabled(c).advance(all));
+    show(&rt, d.advance(all));
     // 32-bit mode: half a turn, and at the wrap
     let e = periodic(Timers::reset(), 0x100, 0x148, 0x80000000, 0x80000000);
-    let f = show(enabled(e).advance(all));
-    show(f.advance(1));
+    let f = show(&rt, enabled(e).advance(all));
+    show(&rt, f.advance(1));
     // period 0
     let g = periodic(Timers::reset(), 0x100, 0x48, 7, 0);
-    let h = show(enabled(g).advance(all));
+    let h = show(&rt, enabled(g).advance(all));
     // a state that is not well formed
     let mut ill = h;
     ill.enabled = 2;
-    show(ill.advance(all));
+    show(&rt, ill.advance(all));
 }

@@ -6,6 +6,8 @@
 // The log is the file, or standard input. The boards are reset with the settings of a record, or with document 01's. A
 // record that is refused is said, and no log is read. At most 65,536 bytes are taken; of a longer log the program says only
 // `too long`.
+#![tactic(auto)]
+
 mod play;
 mod progress;
 mod walk;
@@ -13,14 +15,14 @@ mod walk;
 ghost use Rattle.std.specs.Prelude.{◌≡◌, true, ◌≤◌, length};
 ghost use Rattle.lines.specs.Put.{over};
 ghost use Rattle.board.specs.State.{reset_to};
-ghost use Rattle.log.specs.Output.{output_from, output_of, output_with, accepts};
+ghost use Rattle.event_log.specs.Output.{output_from, output_of, output_with, accepts};
 
 use answers::Answer;
 use board::Board;
 use settings::Settings;
 
 // What both engines made of a log.
-#[derive(Drop)]
+#[derive(Clone, Copy)]
 pub struct Twin {
     pub first: Board,
     pub second: Board,
@@ -32,13 +34,13 @@ pub struct Twin {
 }
 
 // Whether the engines agreed on a record, and the place after what was printed of it.
-#[derive(Drop)]
+#[derive(Clone, Copy)]
 pub struct Told {
     pub agreed: bool,
     pub next: usize,
 }
 
-#[derive(Drop)]
+#[derive(Clone, Copy)]
 pub struct Written {
     pub agreed: bool,
     pub written: usize,
@@ -53,7 +55,7 @@ fn room() -> [u8; 1398272]
 }
 
 // What a log prints on a board and its twin.
-fn played(log: &[u8], board: Board, out: &mut [u8]) -> Written
+fn played(rt: &HostRuntime, log: &[u8], board: Board, out: &mut [u8]) -> Written
     requires { 1398272 ≤ length out.old }
     ensures { (result.agreed ≡ true) × (result.written ≡ length (output_from board log.now)) × (out.new ≡ over (output_from board log.now) out.old) }
 {
@@ -64,7 +66,7 @@ fn played(log: &[u8], board: Board, out: &mut [u8]) -> Written
             written,
         };
     }
-    let t = play::fill(log, board, out);
+    let t = play::fill(rt, log, board, out);
     Written {
         agreed: t.agreed,
         written: t.written,
@@ -72,25 +74,25 @@ fn played(log: &[u8], board: Board, out: &mut [u8]) -> Written
 }
 
 // What it prints on boards that are reset with settings.
-fn output_from(settings: Settings, log: &[u8], out: &mut [u8]) -> Written
+fn output_from(rt: &HostRuntime, settings: Settings, log: &[u8], out: &mut [u8]) -> Written
     requires { 1398272 ≤ length out.old }
     ensures { (result.agreed ≡ true) × (result.written ≡ length (output_from (reset_to settings) log.now)) × (out.new ≡ over (output_from (reset_to settings) log.now) out.old) }
 {
     let board = Board::reset_to(settings);
-    played(log, board, out)
+    played(rt, log, board, out)
 }
 
 // The whole output for a log, at the start of out: what `replay` writes.
-fn output(log: &[u8], out: &mut [u8]) -> Written
+fn output(rt: &HostRuntime, log: &[u8], out: &mut [u8]) -> Written
     requires { 1398272 ≤ length out.old }
     ensures { (result.agreed ≡ true) × (result.written ≡ length (output_of log.now)) × (out.new ≡ over (output_of log.now) out.old) }
 {
     let settings = Settings::standard();
-    output_from(settings, log, out)
+    output_from(rt, settings, log, out)
 }
 
 // The whole output for a settings record and a log, at the start of out: what `replay` writes.
-fn output_with(bytes: &[u8], log: &[u8], out: &mut [u8]) -> Written
+fn output_with(rt: &HostRuntime, bytes: &[u8], log: &[u8], out: &mut [u8]) -> Written
     requires { 1398272 ≤ length out.old }
     ensures { (result.agreed ≡ true) × (result.written ≡ length (output_with bytes.now log.now)) × (out.new ≡ over (output_with bytes.now log.now) out.old) }
 {
@@ -105,7 +107,7 @@ fn output_with(bytes: &[u8], log: &[u8], out: &mut [u8]) -> Written
                 written,
             }
         }
-        _ => output_from(settings, log, out),
+        _ => output_from(rt, settings, log, out),
     }
 }
 
@@ -121,99 +123,100 @@ fn accepts(bytes: &[u8]) -> bool
     }
 }
 
-fn print(text: &[u8]) {
-    program::print(b"twin", text);
+fn print(rt: &HostRuntime, text: &[u8]) {
+    program::print(rt, b"twin", text);
 }
 
 // A difference is told on standard error too.
-fn tell(agreed: bool) {
+fn tell(rt: &HostRuntime, agreed: bool) {
     if !agreed {
-        program::told(b"twin", b"the engines", b"they differ");
+        program::told(rt, b"twin", b"the engines", b"they differ");
     }
 }
 
-fn answer(log: &[u8]) {
+fn answer(rt: &HostRuntime, log: &[u8]) {
     let mut out = room();
-    let o = output(log, &mut out);
+    let o = output(rt, log, &mut out);
     let n = o.written;
-    print(&out[..n]);
-    tell(o.agreed);
+    print(rt, &out[..n]);
+    tell(rt, o.agreed);
 }
 
-fn answer_with(bytes: &[u8], log: &[u8]) {
+fn answer_with(rt: &HostRuntime, bytes: &[u8], log: &[u8]) {
     let mut out = room();
-    let o = output_with(bytes, log, &mut out);
+    let o = output_with(rt, bytes, log, &mut out);
     let n = o.written;
-    print(&out[..n]);
-    tell(o.agreed);
+    print(rt, &out[..n]);
+    tell(rt, o.agreed);
 }
 
 // One byte more than is taken is read, to tell a longer log.
-fn run() {
+fn run(rt: &HostRuntime) {
     let mut log = [0u8; 65537];
-    let read = program::read_input(b"twin", 1, &mut log);
+    let read = program::read_input(rt, b"twin", 1, &mut log);
     if !read.ok {
         return;
     }
     let n = read.moved;
-    answer(&log[..n]);
+    answer(rt, &log[..n]);
 }
 
 // A record that is refused says all that there is to say without a log.
-fn run_on(bytes: &[u8]) {
+fn run_on(rt: &HostRuntime, bytes: &[u8]) {
     if !accepts(bytes) {
-        answer_with(bytes, b"");
+        answer_with(rt, bytes, b"");
         return;
     }
     let mut log = [0u8; 65537];
-    let read = program::read_input(b"twin", 3, &mut log);
+    let read = program::read_input(rt, b"twin", 3, &mut log);
     if !read.ok {
         return;
     }
     let n = read.moved;
-    answer_with(bytes, &log[..n]);
+    answer_with(rt, bytes, &log[..n]);
 }
 
 // One byte more than a record has is read, to tell a longer one.
-fn run_with() {
+fn run_with(rt: &HostRuntime) {
     let mut record = [0u8; 23];
-    let read = program::read_input(b"twin", 2, &mut record);
+    let read = program::read_input(rt, b"twin", 2, &mut record);
     if !read.ok {
         return;
     }
     let n = read.moved;
-    run_on(&record[..n]);
+    run_on(rt, &record[..n]);
 }
 
 // Asked for, or after a wrong use.
-fn usage(wrong: bool) {
+fn usage(rt: &HostRuntime, wrong: bool) {
     program::usage(
+        rt,
         b"twin",
         wrong,
         b"usage: twin [--settings FILE] [FILE]\nReplays an event log on two engines side by side, and prints a line for each record.\nAt the first record where they differ it prints 'differ RECORD at OFFSET' and the\nline of each, and stops. The second engine walks every tick of an advance.\nFILE is the log, of at most 65,536 bytes; no FILE or - is standard input.\n--settings resets both boards with the settings of a record, which is a file too, or -\nif the log is none.\n",
     );
 }
 
-fn with_settings() {
-    if !program::two_inputs(2) {
-        usage(true);
+fn with_settings(rt: &HostRuntime) {
+    if !program::two_inputs(rt, 2) {
+        usage(rt, true);
         return;
     }
-    run_with();
+    run_with(rt);
 }
 
-fn main() {
-    if program::asks_help() {
-        usage(false);
+fn main(rt: HostRuntime) {
+    if program::asks_help(&rt) {
+        usage(&rt, false);
         return;
     }
-    if program::says(1, b"--settings") {
-        with_settings();
+    if program::says(&rt, 1, b"--settings") {
+        with_settings(&rt);
         return;
     }
-    if !program::one_input(1) {
-        usage(true);
+    if !program::one_input(&rt, 1) {
+        usage(&rt, true);
         return;
     }
-    run();
+    run(&rt);
 }

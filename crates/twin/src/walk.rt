@@ -28,7 +28,7 @@ fn plain_advance(b: Board, ticks: u32) -> Turn
 
 // "Cut the advance into any portions, zeros too, with no other call between: the end state is the same and each timer's
 // firings add up to the same number."
-fn in_portions(b: Board, ticks: u32, record: u64) -> Turn
+fn in_portions(rt: &HostRuntime, b: Board, ticks: u32, record: u64) -> Turn
     requires { well_formed b ≡ true }
     ensures { result ≡ turn_of b (call.Advance ticks) }
 {
@@ -38,7 +38,7 @@ fn in_portions(b: Board, ticks: u32, record: u64) -> Turn
     let mut fired2: u32 = 0;
     let mut done: u32 = 0;
     while done < ticks {
-        progress::shown(record, done, ticks);
+        progress::shown(rt, record, done, ticks);
         let portion = least(ticks - done);
         let turn = plain_advance(board, portion);
         let answer = turn.answer;
@@ -49,14 +49,14 @@ fn in_portions(b: Board, ticks: u32, record: u64) -> Turn
         board = turn.board;
         done += portion;
     }
-    progress::cleared();
+    progress::cleared(rt);
     Turn {
         board,
         answer: Answer::Fired(fired0, fired1, fired2),
     }
 }
 
-fn advanced(b: Board, ticks: u32, record: u64) -> Turn
+fn advanced(rt: &HostRuntime, b: Board, ticks: u32, record: u64) -> Turn
     ensures { result ≡ turn_of b (call.Advance ticks) }
 {
     if ticks <= SHOWN {
@@ -65,14 +65,14 @@ fn advanced(b: Board, ticks: u32, record: u64) -> Turn
     if !plain::well_formed(b) {
         return plain_advance(b, ticks);
     }
-    in_portions(b, ticks, record)
+    in_portions(rt, b, ticks, record)
 }
 
-pub(crate) fn walked(b: Board, call: Call, record: u64) -> Turn
+pub(crate) fn walked(rt: &HostRuntime, b: Board, call: Call, record: u64) -> Turn
     ensures { result ≡ turn_of b call }
 {
     match call {
-        Call::Advance { ticks } => advanced(b, ticks, record),
+        Call::Advance { ticks } => advanced(rt, b, ticks, record),
         _ => plain::step(b, call),
     }
 }
