@@ -1,16 +1,20 @@
 # What is built of the crates, and when it is built anew. No test itself: it is sourced, and its functions are called in the
 # repository's folder.
 
-# stale FILE: it isn't there, or something in crates/ or crates.txt is newer
-stale() { [ ! -f "$1" ] || [ -n "$(find crates crates.txt -newer "$1" -print -quit)" ]; }
+# stale FILE: it isn't there, or something in crates/ or crates.txt is newer. What rt keeps of a crate stands in its folder
+# out/, and is no source; making it touches the crate's own folder.
+stale() {
+  [ ! -f "$1" ] || [ -n "$(find crates crates.txt -name out -prune -o \
+    \( -type f -o -path 'crates/*/*' -o -path crates \) -newer "$1" -print -quit)" ]
+}
 
-# built_program NAME: target/bin/NAME, proved and built if it is stale. `rt check` neither links again what it has proved nor
-# touches it, so the stamp of a program that isn't there goes too, and one that is there gets the time of its check.
+# built_program NAME: target/bin/NAME, proved and built if it is stale. rt builds a program where it runs it, so it is run
+# for its help.
 built_program() {
   local program=target/bin/$1
   stale "$program" || return 0
-  [ -f "$program" ] || rm -f "target/stamp/$1"
-  rt check "$1" && [ -x "$program" ] && touch "$program"
+  rm -f "$program"
+  (cd "crates/$1" && rt run -- --help >&2 </dev/null) && mkdir -p target/bin && cp "crates/$1/out/$1" "$program"
 }
 
 # The libraries that a monitor links: the board's functions, the mill's, the salvage's, and the plain engine's.
@@ -25,5 +29,5 @@ built_library() {
   archive=$(archive_of "$1")
   stale "$archive" || return 0
   rm -f "$archive"
-  rt staticlib "$1" && [ -f "$archive" ]
+  (cd "crates/$1" && rt lib) && mkdir -p target/staticlib && cp "crates/$1/out/lib$1.a" "$archive"
 }

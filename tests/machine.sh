@@ -11,7 +11,7 @@ emulation() {
   emulator=()
   on_arm || return 0
   kit=$(rt doc 2>/dev/null </dev/null) || return 1
-  kit=${kit%/docs/*}/on/aarch64/toolchain
+  kit=${kit%/*}/on/aarch64/toolchain
   emulator=("$kit/bin/qemu-x86_64" "$kit/lib/ld-linux-x86-64.so.2" --library-path "$kit/lib")
 }
 

@@ -16,7 +16,6 @@ import sys
 WORD = r"[^\W\d][\w'′₀-₉-]*"
 CAMEL = re.compile(r"^[a-zα-ω][\w'′-]*$")
 DECLARED = re.compile(rf"^\s*(?:pub |abbrev |unfoldable |private )*({WORD})(?:\s*\{{[^}}]*\}})?(?:\s+:\s|\s*:\s)")
-FIXED = {"getD": "get_or"}
 # A lemma that would have its function's name gets `_lem`: the file that has it, and its name as port.py leaves it.
 LEMMAS = {
     "crates/board/proofs/Demands.antt": ["in_window"],
@@ -46,8 +45,7 @@ def read(p):
 
 
 def part(p):
-    if p in FIXED:
-        return FIXED[p]
+    p = p.replace("getD", "get_or")
     return re.sub(r"(?<=[a-z0-9])([A-Z])", lambda m: "_" + m[1].lower(), p) if p[:1].islower() else p
 
 
@@ -91,6 +89,14 @@ def page(text, table):
     return re.sub(rf"#({WORD})", lambda m: "#" + table.get(m[1], m[1]), text)
 
 
+# the names that a file gives to what it imports
+def imported(text):
+    found = set(re.findall(rf"(?m)^(?:pub |ghost )?use [^\n]*? as ({WORD})", text)) | set(
+        it for line in re.findall(r"(?m)^(?:pub |ghost )?use [^\n]*", text) for it in re.findall(rf" as ({WORD})", line)
+    )
+    return {n: snake(n) for n in found if CAMEL.match(n) and snake(n) != n}
+
+
 # the lemmas of LEMMAS that a file has or imports
 def lemmas(path, text):
     found = {}
@@ -98,7 +104,7 @@ def lemmas(path, text):
         crate, module = p.split("/")[1], p.split("/")[3][:-5]
         for n in names:
             used = re.search(rf"use Rattle\.{crate}\.proofs\.{module}\.\{{[^}}]*(?<![\w-]){n}(?![\w-])", text)
-            if os.path.normpath(path) == p or used:
+            if (os.path.normpath(path) == p or used) and n + "_lem" not in text:
                 found[n] = n + "_lem"
     return found
 
@@ -112,9 +118,9 @@ def main():
     for p in files(".antt", ".rt", ".edit", ".md"):
         text = read(p)
         if p.endswith(".antt"):
-            new = renamed(renamed(text, lemmas(p, text)), table)
+            new = renamed(renamed(text, lemmas(p, text)), table | imported(text))
         elif p.endswith(".rt"):
-            new = clauses(text, table)
+            new = clauses(text, table | imported(text))
         elif p.endswith(".edit"):
             new = renamed(text, table)
         else:
