@@ -14,6 +14,9 @@ const ENAMETOOLONG: i32 = 36;
 
 const EILSEQ: i32 = 84;
 
+// Room for a file's name: Linux lets it have 4,095 bytes.
+pub(crate) const NAME_ROOM: usize = 4096;
+
 #[derive(Clone, Copy)]
 pub enum Argument {
     Help,
@@ -103,7 +106,7 @@ pub(crate) fn named<'a>(rt: &HostRuntime, i: usize, buf: &'a mut [u8]) -> Result
 
 // An argument that is missing, or longer than a file's name can be, is taken for an empty one.
 fn kind_at(rt: &HostRuntime, i: usize) -> Argument {
-    let mut text = [0; 4096];
+    let mut text = [0; NAME_ROOM];
     let n = arg(rt, i, &mut text);
     kind(&text[..n])
 }
@@ -210,7 +213,7 @@ pub fn input_and_file(rt: &HostRuntime, i: usize) -> bool {
 
 // Whether argument i is this word.
 pub fn says(rt: &HostRuntime, i: usize, word: &[u8]) -> bool {
-    let mut text = [0; 4096];
+    let mut text = [0; NAME_ROOM];
     let n = arg(rt, i, &mut text);
     same(&text[..n], word)
 }

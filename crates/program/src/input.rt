@@ -1,7 +1,7 @@
 // What a program reads.
 ghost use Rattle.program.specs.Counts.{IsPrefixLen};
 
-use crate::arguments::{Argument, has, kind, named};
+use crate::arguments::{Argument, NAME_ROOM, has, kind, named};
 use crate::output::{failed, told};
 use crate::transfer::{Transfer, read_all};
 use std::fs::File;
@@ -78,7 +78,7 @@ pub fn read_input(rt: &HostRuntime, name: &[u8], i: usize, buf: &mut [u8]) -> Tr
     if !has(rt, i) {
         return take_standard(rt, name, buf);
     }
-    let mut text = [0; 4096];
+    let mut text = [0; NAME_ROOM];
     match named(rt, i, &mut text) {
         Ok(path) => take_named(rt, name, path, buf),
         Err(error) => {

@@ -1,5 +1,5 @@
 // What a program writes: its answer, a new file, its usage, and its messages, each one line on standard error.
-use crate::arguments::named;
+use crate::arguments::{NAME_ROOM, named};
 use crate::transfer::write_all;
 use std::fmt::InlineText;
 use std::fs;
@@ -109,7 +109,7 @@ fn make_file(rt: &HostRuntime, name: &[u8], path: &str, text: &[u8]) -> bool {
 
 // Whether argument i can name a new file. One that is empty, longer than a name can be or no text is told.
 pub fn names_file(rt: &HostRuntime, name: &[u8], i: usize) -> bool {
-    let mut buf = [0; 4096];
+    let mut buf = [0; NAME_ROOM];
     match named(rt, i, &mut buf) {
         Ok(path) => {
             if path.is_empty() {
@@ -128,7 +128,7 @@ pub fn names_file(rt: &HostRuntime, name: &[u8], i: usize) -> bool {
 // Writes a text to the new file that argument i names, and answers whether the file is there with all of it. What goes
 // wrong is told, and then a file that was made is removed. What stands under that name already is left alone.
 pub fn write_new(rt: &HostRuntime, name: &[u8], i: usize, text: &[u8]) -> bool {
-    let mut buf = [0; 4096];
+    let mut buf = [0; NAME_ROOM];
     match named(rt, i, &mut buf) {
         Ok(path) => make_file(rt, name, path, text),
         Err(error) => {

@@ -1,6 +1,5 @@
 use mathlib.Core.Path.{ap, ◌∙◌}
 use Rattle.salvage.specs.Told.{numbers_of}
-use borrow.Author.Rules.{rules}
 use Rattle.nataqvoju_salvage.proofs.nataqvoju_salvage.Goals as goal
 
 pub returns : goal.returns

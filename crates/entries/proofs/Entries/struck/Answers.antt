@@ -1,3 +1,4 @@
+use mathlib.Core.Bool.{true, ◌&&◌}
 use mathlib.Core.Path.{◌≡◌, refl, sym, ap, subst, ◌∙◌}
 use Prim.Native.Nat.{ℕ, ◌%◌, ◌<◌}
 use native.Mathlib.Omega.{arith}
@@ -15,45 +16,31 @@ use Rattle.entries.proofs.Entries.struck.Invariants.{with-pins}
 use Rattle.entries.proofs.Entries.struck.Goals as goal
 use Rattle.entries.proofs.Entries.struck.Goals.{then-strike-p, else-strike-p}
 
+-- the pin of a strike that is one
+in-pin : (k : ℕ) → leb 256 k && ltb (k % 256) 24 ≡ true → k % 256 < 24
+in-pin k e = ltb-true (k % 256) 24 (and_right (leb 256 k) (ltb (k % 256) 24) e)
+
 pub loop-i-init : goal.loop-i-init
 unfolding struck
 loop-i-init c = (omega arith, refl)
 
 pub bounds-level-p : goal.bounds-level-p
-bounds-level-p c =
-    let strike : ℕ = get_or c.args.strikes c.loop-i.i 0 in
-    let in-pin : strike % 256 < 24 = ltb-true _ _ (and_right (leb 256 (strike)) _ c.if-strike-p.true) in
-    in-pin
+bounds-level-p c = in-pin _ c.if-strike-p.true
 
 pub offset_bounds-low-p : goal.offset_bounds-low-p
-offset_bounds-low-p c =
-    let strike : ℕ = get_or c.args.strikes c.loop-i.i 0 in
-    let in-pin : strike % 256 < 24 = ltb-true _ _ (and_right (leb 256 (strike)) _ c.if-strike-p.true) in
-    let l = in-pin in omega arith
+offset_bounds-low-p c = omega (arith, in-pin (get_or c.args.strikes c.loop-i.i 0) c.if-strike-p.true)
 
 pub bounds-low-p : goal.bounds-low-p
-bounds-low-p c =
-    let strike : ℕ = get_or c.args.strikes c.loop-i.i 0 in
-    let in-pin : strike % 256 < 24 = ltb-true _ _ (and_right (leb 256 (strike)) _ c.if-strike-p.true) in
-    in-pin
+bounds-low-p c = in-pin _ c.if-strike-p.true
 
 pub bounds-held-p : goal.bounds-held-p
-bounds-held-p c =
-    let strike : ℕ = get_or c.args.strikes c.loop-i.i 0 in
-    let in-pin : strike % 256 < 24 = ltb-true _ _ (and_right (leb 256 (strike)) _ c.if-strike-p.true) in
-    in-pin
+bounds-held-p c = in-pin _ c.if-strike-p.true
 
 pub bounds-held-p-then-strike-p : goal.bounds-held-p-then-strike-p
-bounds-held-p-then-strike-p c =
-    let strike : ℕ = get_or c.args.strikes c.loop-i.i 0 in
-    let in-pin : strike % 256 < 24 = ltb-true _ _ (and_right (leb 256 (strike)) _ c.if-strike-p.true) in
-    in-pin
+bounds-held-p-then-strike-p c = in-pin _ c.if-strike-p.true
 
 pub bounds-level-p-then-strike-p : goal.bounds-level-p-then-strike-p
-bounds-level-p-then-strike-p c =
-    let strike : ℕ = get_or c.args.strikes c.loop-i.i 0 in
-    let in-pin : strike % 256 < 24 = ltb-true _ _ (and_right (leb 256 (strike)) _ c.if-strike-p.true) in
-    in-pin
+bounds-level-p-then-strike-p c = in-pin _ c.if-strike-p.true
 
 pub loop-i-preserved : goal.loop-i-preserved
 unfolding struck
@@ -72,7 +59,7 @@ loop-i-preserved c =
           ((elim c.if-strike-p.branch [
             | then-strike-p w ↦
                 rw (w.level-is, w.held-is, w.struck_held.ensures, w.struck_level.ensures)
-                (sym (strike-parts x z k (leb-true 256 k (and_left (leb 256 k) (ltb (k % 256) 24) w.if-strike-p.true)) (ltb-true (k % 256) 24 (and_right (leb 256 k) (ltb (k % 256) 24) w.if-strike-p.true))))
+                (sym (strike-parts x z k (leb-true 256 k (and_left (leb 256 k) (ltb (k % 256) 24) w.if-strike-p.true)) (in-pin k w.if-strike-p.true)))
             | else-strike-p w ↦ rw (w.level-is, w.held-is) (sym (strike-rests x z k w.if-strike-p.false))
           ])
           ∙ ap (λ (d : Entries). struck_by d k) c.loop-i.invariant.1),

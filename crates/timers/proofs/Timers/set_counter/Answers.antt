@@ -1,8 +1,13 @@
-use Rattle.std.proofs.Common.{eq-eqb, ne_eqb}
+use Rattle.std.proofs.Common.{◌≡◌, true, false, eq-eqb, ne_eqb}
+use Rattle.timers.specs.State.{is_enabled}
 use Rattle.timers.proofs.Timers.set_counter.Goals as goal
 
 pub returns-then-self-eq1 : goal.returns-then-self-eq1
-returns-then-self-eq1 c = rw (eq-eqb _ 1 c.if-self-eq1.true)
+returns-then-self-eq1 c =
+    let on : is_enabled c.args.self ≡ true = eq-eqb _ 1 c.if-self-eq1.true in
+    rw on
 
 pub returns : goal.returns
-returns c = rw (ne_eqb _ 1 c.if-self-eq1.false)
+returns c =
+    let off : is_enabled c.args.self ≡ false = ne_eqb _ 1 c.if-self-eq1.false in
+    rw off
