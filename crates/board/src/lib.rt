@@ -14,7 +14,7 @@ use timers::Timers;
 
 // By value, 304 bytes, none of them padding.
 #[repr(C)]
-#[derive(Clone, Copy)]
+#[derive(Clone, Copy, PartialEq, Eq)]
 pub struct Board {
     pub timers: Timers,
     pub controller: Controller,
@@ -52,7 +52,7 @@ pub enum Call {
     },
 }
 
-#[derive(Clone, Copy)]
+#[derive(Clone, Copy, PartialEq, Eq)]
 pub struct Turn {
     pub board: Board,
     pub answer: Answer,

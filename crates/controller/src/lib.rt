@@ -12,7 +12,7 @@ use entries::Entries;
 
 // No byte of it is padding. The id and the index are wider than their registers: what doesn't fit is not well formed.
 #[repr(C)]
-#[derive(Clone, Copy)]
+#[derive(Clone, Copy, PartialEq, Eq)]
 pub struct Controller {
     pub id: u32,
     pub index: u32,

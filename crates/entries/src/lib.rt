@@ -20,7 +20,7 @@ pub struct Low(pub u32);
 
 // By value: low words, destinations, wire levels and held edges (0 or 1).
 #[repr(C)]
-#[derive(Clone, Copy)]
+#[derive(Clone, Copy, PartialEq, Eq)]
 pub struct Entries {
     pub low: [u32; 24],
     pub destination: [u8; 24],

@@ -9,7 +9,7 @@ ghost use Rattle.settings.specs.Settings.{standard, vendor_ok, period_ok, mask_o
 
 use answers::Answer;
 
-#[derive(Clone, Copy)]
+#[derive(Clone, Copy, PartialEq, Eq)]
 pub struct Settings {
     pub vendor: u16,
     // of a tick, in femtoseconds

@@ -17,7 +17,7 @@ use settings::Settings;
 
 // Flags are 0 or 1: any other value is a state that is not well formed. No byte of it is padding.
 #[repr(C)]
-#[derive(Clone, Copy)]
+#[derive(Clone, Copy, PartialEq, Eq)]
 pub struct Timer {
     pub comparator: u64,
     pub period: u64,

@@ -21,7 +21,7 @@ pub use timer::Timer;
 // `enabled` is 0 or 1, the vendor has 16 bits: any other value is a state that is not well formed. No byte of it is
 // padding.
 #[repr(C)]
-#[derive(Clone, Copy)]
+#[derive(Clone, Copy, PartialEq, Eq)]
 pub struct Timers {
     pub counter: u64,
     // of a tick, in femtoseconds
