@@ -14,16 +14,16 @@ const FORM: u8 = 1;
 
 /// The numbers that stand in a record, whatever they are.
 #[tactic(auto, unfolding(crate::specs::Record::settings_at))]
-fn settings_at(record: &[u8; LENGTH]) -> Settings
-    ensures { result ≡ settings_at record.now }
+fn settings_at(bytes: &[u8; LENGTH]) -> Settings
+    ensures { result ≡ settings_at bytes.now }
 {
     Settings {
-        vendor: u16_at(record, 3),
-        period: u32_at(record, 5),
-        mask0: u32_at(record, 9),
-        mask1: u32_at(record, 13),
-        mask2: u32_at(record, 17),
-        id: record[21],
+        vendor: u16_at(bytes, 3),
+        period: u32_at(bytes, 5),
+        mask0: u32_at(bytes, 9),
+        mask1: u32_at(bytes, 13),
+        mask2: u32_at(bytes, 17),
+        id: bytes[21],
     }
 }
 
