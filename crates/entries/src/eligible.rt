@@ -77,10 +77,8 @@ impl Entries {
         ensures { result ≡ keys_of low }
     {
         let mut keys: [u16; 24] = [0; 24];
-        let mut i: usize = 0;
-        while i < Entries::PINS {
+        for i in 0..Entries::PINS {
             keys[i] = Low(low[i]).key();
-            i += 1;
         }
         keys
     }
@@ -91,10 +89,8 @@ impl Entries {
         ensures { result ≡ bits_from (eligible_by_key keys level held) at 16 }
     {
         let mut mask: u16 = 0;
-        let mut i: usize = 0;
-        while i < 16 {
-            mask = mask | Key(keys[at + i]).eligible(level[at + i], held[at + i]) << (i as u32);
-            i += 1;
+        for i in 0..16 {
+            mask |= Key(keys[at + i]).eligible(level[at + i], held[at + i]) << (i as u32);
         }
         mask
     }

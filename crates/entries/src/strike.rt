@@ -36,8 +36,7 @@ impl Entries {
         let destination = self.destination;
         let mut level = self.level;
         let mut held = self.held;
-        let mut i: usize = 0;
-        while i < 3 {
+        for i in 0..3 {
             let strike = strikes[i];
             let p = (strike % Entries::PULSE) as usize;
             if (Entries::PULSE <= strike) & (p < Entries::PINS) {
@@ -46,7 +45,6 @@ impl Entries {
                 held[p] = struck_held(low[p], pulse, before, held[p]);
                 level[p] = struck_level(pulse, before);
             }
-            i += 1;
         }
         Entries {
             low,

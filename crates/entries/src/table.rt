@@ -25,10 +25,8 @@ impl Entries {
         ensures { result ≡ ended self vector }
     {
         let mut low = self.low;
-        let mut i: usize = 0;
-        while i < Entries::PINS {
+        for i in 0..Entries::PINS {
             low[i] = Low(low[i]).ended(vector);
-            i += 1;
         }
         let destination = self.destination;
         let level = self.level;

@@ -10,10 +10,8 @@ impl Entries {
         ensures { result ≡ words_ok low }
     {
         let mut ok = true;
-        let mut i: usize = 0;
-        while i < Entries::PINS {
-            ok = ok & Low(low[i]).word_ok();
-            i += 1;
+        for i in 0..Entries::PINS {
+            ok &= Low(low[i]).word_ok();
         }
         ok
     }
@@ -23,10 +21,8 @@ impl Entries {
         ensures { result ≡ edges_ok low held }
     {
         let mut ok = true;
-        let mut i: usize = 0;
-        while i < Entries::PINS {
-            ok = ok & (held[i] <= (!Low(low[i]).is_level()) as u8);
-            i += 1;
+        for i in 0..Entries::PINS {
+            ok &= held[i] <= (!Low(low[i]).is_level()) as u8;
         }
         ok
     }
@@ -45,10 +41,8 @@ impl Entries {
         ensures { result ≡ levels_ok levels }
     {
         let mut ok = true;
-        let mut i: usize = 0;
-        while i < Entries::PINS {
-            ok = ok & (levels[i] <= 1);
-            i += 1;
+        for i in 0..Entries::PINS {
+            ok &= levels[i] <= 1;
         }
         ok
     }

@@ -13,10 +13,8 @@ impl Entries {
         ensures { result ≡ edge_pins low }
     {
         let mut edges: [u8; 24] = [0; 24];
-        let mut i: usize = 0;
-        while i < Entries::PINS {
+        for i in 0..Entries::PINS {
             edges[i] = Low(low[i]).takes_edges() as u8;
-            i += 1;
         }
         edges
     }
@@ -25,10 +23,8 @@ impl Entries {
         ensures { result ≡ active_lows low }
     {
         let mut lows: [u8; 24] = [0; 24];
-        let mut i: usize = 0;
-        while i < Entries::PINS {
+        for i in 0..Entries::PINS {
             lows[i] = Low(low[i]).active_low();
-            i += 1;
         }
         lows
     }
@@ -41,10 +37,8 @@ impl Entries {
         let edges = Entries::edge_pins(low);
         let lows = Entries::active_lows(low);
         let mut held = self.held;
-        let mut i: usize = 0;
-        while i < Entries::PINS {
+        for i in 0..Entries::PINS {
             held[i] = held_by(edges[i], lows[i], level[i], levels[i], held[i]);
-            i += 1;
         }
         let destination = self.destination;
         Entries {

@@ -1,6 +1,6 @@
 use mathlib.Core.Path.{◌≡◌}
 use mathlib.Core.List.{List, ◌++◌}
-use Prim.Native.Nat.{ℕ, ◌-◌, ◌≤◌}
+use Prim.Native.Nat.{ℕ}
 use lib.ListN.{drop, get_or, replicate}
 use Rattle.pins.specs.Pins.{tab}
 use Rattle.entries.specs.Word.{active_low_of}
@@ -13,7 +13,4 @@ abbrev pub zeros : List ℕ
 zeros = replicate 24 0
 
 abbrev pub invariant-loop-i : goal.invariant-loop-i
-invariant-loop-i l = (l.i ≤ 24) × (l.lows ≡ tab (at l.low) 0 l.i ++ drop l.i zeros)
-
-abbrev pub decreases-loop-i : goal.decreases-loop-i
-decreases-loop-i l = 24 - l.i
+invariant-loop-i l = l.lows ≡ tab (at l.low) 0 l.i ++ drop l.i zeros

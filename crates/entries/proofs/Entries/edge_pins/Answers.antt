@@ -12,20 +12,18 @@ use Rattle.entries.proofs.Entries.edge_pins.Goals as goal
 
 pub loop-i-init : goal.loop-i-init
 unfolding tab
-loop-i-init c = (omega arith, refl)
+loop-i-init c = refl
 
 pub loop-i-preserved : goal.loop-i-preserved
 loop-i-preserved c =
-    let f = at c.args.low in (
-      omega arith,
-      ap (λ (l : List ℕ). set l c.loop-i.i (bool_byte c.takes_edges.result)) c.loop-i.invariant.1
-          ∙ ap (set (tab f 0 c.loop-i.i ++ drop c.loop-i.i zeros) c.loop-i.i) (ap bool_byte c.takes_edges.ensures)
-          ∙ fill_more f c.loop-i.i zeros (omega arith),
-    )
+    let f = at c.args.low in
+    ap (λ (l : List ℕ). set l c.loop-i.i (bool_byte c.takes_edges.result)) c.loop-i.invariant
+    ∙ ap (set (tab f 0 c.loop-i.i ++ drop c.loop-i.i zeros) c.loop-i.i) (ap bool_byte c.takes_edges.ensures)
+    ∙ fill_more f c.loop-i.i zeros (omega arith)
 
 pub returns : goal.returns
 unfolding edge_pins
 returns c =
     let f = at c.args.low in
     let full : c.loop-i.i ≡ 24 = omega arith in
-    c.loop-i.invariant.1 ∙ ap (λ (i : ℕ). tab f 0 i ++ drop i zeros) full ∙ fill-all f 24 zeros refl
+    c.loop-i.invariant ∙ ap (λ (i : ℕ). tab f 0 i ++ drop i zeros) full ∙ fill-all f 24 zeros refl

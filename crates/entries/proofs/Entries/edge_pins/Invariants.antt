@@ -1,6 +1,6 @@
 use mathlib.Core.Path.{◌≡◌}
 use mathlib.Core.List.{List, ◌++◌}
-use Prim.Native.Nat.{ℕ, ◌-◌, ◌≤◌}
+use Prim.Native.Nat.{ℕ}
 use lib.ListN.{drop, get_or, replicate}
 use Rattle.pins.specs.Pins.{tab}
 use mir.Val.{bool_byte}
@@ -14,7 +14,4 @@ abbrev pub zeros : List ℕ
 zeros = replicate 24 0
 
 abbrev pub invariant-loop-i : goal.invariant-loop-i
-invariant-loop-i l = (l.i ≤ 24) × (l.edges ≡ tab (at l.low) 0 l.i ++ drop l.i zeros)
-
-abbrev pub decreases-loop-i : goal.decreases-loop-i
-decreases-loop-i l = 24 - l.i
+invariant-loop-i l = l.edges ≡ tab (at l.low) 0 l.i ++ drop l.i zeros

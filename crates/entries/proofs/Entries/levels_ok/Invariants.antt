@@ -1,7 +1,7 @@
 use mathlib.Core.Path.{◌≡◌}
 use mathlib.Core.Bool.{Bool}
 use mathlib.Core.List.{List}
-use Prim.Native.Nat.{ℕ, ◌-◌, ◌≤◌}
+use Prim.Native.Nat.{ℕ}
 use lib.Dec.{leb}
 use lib.ListN.{get_or}
 use Rattle.pins.specs.Pins.{all_from}
@@ -11,7 +11,4 @@ abbrev pub low-enough : List ℕ → ℕ → Bool
 low-enough l i = leb (get_or l i 0) 1
 
 abbrev pub invariant-loop-i : goal.invariant-loop-i
-invariant-loop-i l = (l.i ≤ 24) × (l.ok ≡ all_from (low-enough l.levels) 0 l.i)
-
-abbrev pub decreases-loop-i : goal.decreases-loop-i
-decreases-loop-i l = 24 - l.i
+invariant-loop-i l = l.ok ≡ all_from (low-enough l.levels) 0 l.i

@@ -22,7 +22,7 @@ in-pin k e = ltb-true (k % 256) 24 (and_right (leb 256 k) (ltb (k % 256) 24) e)
 
 pub loop-i-init : goal.loop-i-init
 unfolding struck
-loop-i-init c = (omega arith, refl)
+loop-i-init c = refl
 
 pub bounds-level-p : goal.bounds-level-p
 bounds-level-p c = in-pin _ c.if-strike-p.true
@@ -53,19 +53,17 @@ loop-i-preserved c =
     record { low = low; destination = destination; level = level; held = held }) in
     let k = get_or c.args.strikes c.loop-i.i 0 in
     let x = with-pins c.args.self.low c.args.self.destination c.loop-i.level c.loop-i.held in
-    let z : Sized x = subst Sized (sym c.loop-i.invariant.1) (struck-sized c.args.self sized c.loop-i.i c.args.strikes) in (
-      omega arith,
-      rw add-one
-          ((elim c.if-strike-p.branch [
-            | then-strike-p w ↦
-                rw (w.level-is, w.held-is, w.struck_held.ensures, w.struck_level.ensures)
-                (sym (strike-parts x z k (leb-true 256 k (and_left (leb 256 k) (ltb (k % 256) 24) w.if-strike-p.true)) (in-pin k w.if-strike-p.true)))
-            | else-strike-p w ↦ rw (w.level-is, w.held-is) (sym (strike-rests x z k w.if-strike-p.false))
-          ])
-          ∙ ap (λ (d : Entries). struck_by d k) c.loop-i.invariant.1),
-    )
+    let z : Sized x = subst Sized (sym c.loop-i.invariant) (struck-sized c.args.self sized c.loop-i.i c.args.strikes) in
+    rw add-one
+    ((elim c.if-strike-p.branch [
+      | then-strike-p w ↦
+          rw (w.level-is, w.held-is, w.struck_held.ensures, w.struck_level.ensures)
+          (sym (strike-parts x z k (leb-true 256 k (and_left (leb 256 k) (ltb (k % 256) 24) w.if-strike-p.true)) (in-pin k w.if-strike-p.true)))
+      | else-strike-p w ↦ rw (w.level-is, w.held-is) (sym (strike-rests x z k w.if-strike-p.false))
+    ])
+    ∙ ap (λ (d : Entries). struck_by d k) c.loop-i.invariant)
 
 pub returns : goal.returns
 returns c =
     let full : c.loop-i.i ≡ 3 = omega arith in
-    c.loop-i.invariant.1 ∙ ap (λ (n : ℕ). struck n c.args.strikes c.args.self) full
+    c.loop-i.invariant ∙ ap (λ (n : ℕ). struck n c.args.strikes c.args.self) full
