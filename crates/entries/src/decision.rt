@@ -128,13 +128,6 @@ impl Entries {
         let mut low = self.low;
         let mut held = self.held;
         d.apply(&mut low, &mut held);
-        let destination = self.destination;
-        let level = self.level;
-        Entries {
-            low,
-            destination,
-            level,
-            held,
-        }
+        Entries { low, held, ..self }
     }
 }

@@ -7,6 +7,7 @@ ghost use Rattle.entries.specs.Table.{first_eligible};
 ghost use Rattle.entries.specs.Inner.{eligible_pins, edge_eligible, level_eligible, key_of, keys_of, eligible_by_key};
 
 use crate::{Entries, Low};
+use std::array;
 
 // Bits 16:1 of a low word: all of the word that decides whether its pin is eligible. With half the width twice as many
 // fit the processor's vectors; docs/BENCHMARKS.md has what other forms cost. Arrays hold plain u16, not `Key`.
@@ -76,11 +77,7 @@ impl Entries {
     fn keys(low: [u32; 24]) -> [u16; 24]
         ensures { result ≡ keys_of low }
     {
-        let mut keys: [u16; 24] = [0; 24];
-        for i in 0..Entries::PINS {
-            keys[i] = Low(low[i]).key();
-        }
-        keys
+        array::from_fn(|i| Low(low[i]).key())
     }
 
     // Pins from `at` on, the lowest in bit 0.
