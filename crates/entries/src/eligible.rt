@@ -1,5 +1,5 @@
 // The eligible pins as one number, and the lowest of them: its trailing zeros.
-ghost use Rattle.std.specs.Prelude.{◌≡◌, ◌≤◌, ◌*◌, min};
+ghost use Rattle.std.specs.Prelude.{◌≡◌, ◌≤◌, ◌*◌};
 ghost use mir.Val.{bool_byte};
 ghost use Rattle.pins.specs.Pins.{bits_from};
 ghost use Rattle.entries.specs.Pin.{eligible};
@@ -13,13 +13,6 @@ use std::array;
 // fit the processor's vectors; docs/BENCHMARKS.md has what other forms cost. Arrays hold plain u16, not `Key`.
 #[derive(Clone, Copy)]
 struct Key(u16);
-
-// A level that is neither 0 nor 1 differs from either polarity, as 2 does.
-fn at_most_2(level: u8) -> u8
-    ensures { result ≡ min level 2 }
-{
-    if level < 2 { level } else { 2 }
-}
 
 impl Key {
     // ---- its bits: the low word's, a place lower
@@ -41,11 +34,11 @@ impl Key {
     }
 
     // A bit that stands in the way, a missing level bit too, makes the left side 128 or more. The right side is 0 where
-    // the pin is not asserted, and 3 at most.
+    // the pin is not asserted, and 3 at most. A level that is neither 0 nor 1 differs from either polarity, as 2 does.
     fn by_level(self, level: u8) -> bool
         ensures { result ≡ level_eligible (self.0 * 2) level }
     {
-        let differs = at_most_2(level) as u16 ^ ((self.0 >> Key::ACTIVE_LOW_AT) & 1);
+        let differs = level.min(2) as u16 ^ ((self.0 >> Key::ACTIVE_LOW_AT) & 1);
         (self.0 & Key::LEVEL) ^ Key::LEVEL_ALONE < differs
     }
 

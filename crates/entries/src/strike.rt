@@ -6,6 +6,7 @@ ghost use Rattle.entries.specs.Strike.{struck_level, struck_held, struck};
 use crate::{Entries, Low};
 
 // A struck pin's level: after a pulse the wire is where it was.
+#[tactic(auto, unfolding(crate::specs::Strike::struck_level))]
 fn struck_level(pulse: bool, before: u8) -> u8
     ensures { result ≡ struck_level pulse before }
 {
@@ -13,6 +14,7 @@ fn struck_level(pulse: bool, before: u8) -> u8
 }
 
 // And whether it holds an edge.
+#[tactic(auto, unfolding(crate::specs::Strike::struck_held))]
 fn struck_held(low: u32, pulse: bool, before: u8, held: u8) -> u8
     ensures { result ≡ struck_held low pulse before held }
 {
@@ -33,11 +35,9 @@ impl Entries {
         ensures { result ≡ struck 3 strikes self }
     {
         let low = self.low;
-        let destination = self.destination;
         let mut level = self.level;
         let mut held = self.held;
-        for i in 0..3 {
-            let strike = strikes[i];
+        for strike in strikes {
             let p = (strike % Entries::PULSE) as usize;
             if (Entries::PULSE <= strike) & (p < Entries::PINS) {
                 let pulse = strike < Entries::RISE;
@@ -47,10 +47,9 @@ impl Entries {
             }
         }
         Entries {
-            low,
-            destination,
             level,
             held,
+            ..self
         }
     }
 }

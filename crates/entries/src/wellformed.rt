@@ -10,8 +10,8 @@ impl Entries {
         ensures { result ≡ words_ok low }
     {
         let mut ok = true;
-        for i in 0..Entries::PINS {
-            ok &= Low(low[i]).word_ok();
+        for word in low {
+            ok &= Low(word).word_ok();
         }
         ok
     }
@@ -41,8 +41,8 @@ impl Entries {
         ensures { result ≡ levels_ok levels }
     {
         let mut ok = true;
-        for i in 0..Entries::PINS {
-            ok &= levels[i] <= 1;
+        for level in levels {
+            ok &= level <= 1;
         }
         ok
     }

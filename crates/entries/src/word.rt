@@ -72,18 +72,21 @@ impl Low {
         self.bit(Low::ACTIVE_LOW_AT)
     }
 
+    #[tactic(auto, unfolding(crate::specs::Word::remote_of))]
     pub fn is_remote(self) -> bool
         ensures { result ≡ remote_of self.0 }
     {
         self.bit(Low::REMOTE_AT) == 1
     }
 
+    #[tactic(auto, unfolding(crate::specs::Word::level_of))]
     pub fn is_level(self) -> bool
         ensures { result ≡ level_of self.0 }
     {
         self.bit(Low::LEVEL_AT) == 1
     }
 
+    #[tactic(auto, unfolding(crate::specs::Word::masked_of))]
     pub fn is_masked(self) -> bool
         ensures { result ≡ masked_of self.0 }
     {

@@ -10,5 +10,5 @@ use Rattle.entries.proofs.Entries.levels_ok.Given as goal
 abbrev pub low-enough : List ℕ → ℕ → Bool
 low-enough l i = leb (get_or l i 0) 1
 
-abbrev pub invariant-loop-i : goal.invariant-loop-i
-invariant-loop-i l = l.ok ≡ all_from (low-enough l.levels) 0 l.i
+abbrev pub invariant-loop-level : goal.invariant-loop-level
+invariant-loop-level l = l.ok ≡ all_from (low-enough l.level-items) 0 l.level-index

@@ -9,5 +9,5 @@ use Rattle.entries.proofs.Entries.struck.Given as goal
 abbrev pub with-pins : List ℕ → List ℕ → List ℕ → List ℕ → Entries
 with-pins w d l h = record { low = w; destination = d; level = l; held = h }
 
-abbrev pub invariant-loop-i : goal.invariant-loop-i
-invariant-loop-i l = with-pins l.low l.destination l.level l.held ≡ struck l.i l.strikes (with-pins l.low l.destination l.initial.level l.initial.held)
+abbrev pub invariant-loop-strike : goal.invariant-loop-strike
+invariant-loop-strike l = with-pins l.low l.self.destination l.level l.held ≡ struck l.strike-index l.strike-items (with-pins l.low l.self.destination l.initial.level l.initial.held)

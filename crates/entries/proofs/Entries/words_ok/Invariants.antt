@@ -10,5 +10,5 @@ use Rattle.entries.proofs.Entries.words_ok.Given as goal
 abbrev pub fits : List ℕ → ℕ → Bool
 fits w i = word_ok (get_or w i 0)
 
-abbrev pub invariant-loop-i : goal.invariant-loop-i
-invariant-loop-i l = l.ok ≡ all_from (fits l.low) 0 l.i
+abbrev pub invariant-loop-word : goal.invariant-loop-word
+invariant-loop-word l = l.ok ≡ all_from (fits l.word-items) 0 l.word-index
