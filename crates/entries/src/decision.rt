@@ -53,7 +53,7 @@ fn held_written(low: u32, held: &[u8; 24], n: usize) -> u8
 }
 
 impl EntryDecision {
-    // A delivery of pin n.
+    /// A delivery of pin n.
     #[tactic(auto, unfolding(crate::specs::Decision::delivery_at, crate::specs::Decision::value_at))]
     pub fn delivery(
         n: usize,
@@ -72,7 +72,7 @@ impl EntryDecision {
         }
     }
 
-    // A write of pin n's low word.
+    /// A write of pin n's low word.
     #[tactic(auto, unfolding(crate::specs::Decision::write_at, crate::specs::Decision::value_at))]
     pub fn write(n: usize, value: u32, low: &[u32; 24], held: &[u8; 24]) -> EntryDecision
         ensures { result ≡ write_at n value low.now held.now }
@@ -98,7 +98,7 @@ impl EntryDecision {
 }
 
 impl WireDecision {
-    // Pin n's wire changes to a level.
+    /// Pin n's wire changes to a level.
     #[tactic(auto, unfolding(crate::specs::Decision::change_at, crate::specs::Decision::value_at))]
     pub fn change(
         n: usize,

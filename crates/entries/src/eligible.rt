@@ -85,7 +85,7 @@ impl Entries {
         mask
     }
 
-    // Pins 8 to 15 stand in both. docs/BENCHMARKS.md has other ways to part the pins.
+    /// Pins 8 to 15 stand in both. docs/BENCHMARKS.md has other ways to part the pins.
     pub fn eligible_pins(self) -> u32
         ensures { result ≡ eligible_pins self }
     {
@@ -98,7 +98,7 @@ impl Entries {
         first as u32 | (last as u32) << 8
     }
 
-    // With bit 24 put in, the count is 24 where no pin is eligible.
+    /// With bit 24 put in, the count is 24 where no pin is eligible.
     pub fn first_eligible(self) -> usize
         ensures { result ≡ first_eligible self }
     {

@@ -5,7 +5,7 @@ ghost use Rattle.entries.specs.Inner.{takes_edges, held_by, taken_word, held_tak
 
 use crate::Low;
 
-// The held edge after a change of the wire, by whether the pin takes edges and whether it is active low, 0 or 1.
+/// The held edge after a change of the wire, by whether the pin takes edges and whether it is active low, 0 or 1.
 #[tactic(auto, unfolding(crate::specs::Inner::held_by))]
 pub fn held_by(edge: u8, active_low: u8, before: u8, after: u8, held: u8) -> u8
     ensures { result ≡ held_by edge active_low before after held }
@@ -32,7 +32,7 @@ impl Low {
         !self.is_masked() & !self.is_level() & !self.asserted(before) & self.asserted(after)
     }
 
-    // Unmasked, and edge.
+    /// Unmasked, and edge.
     #[tactic(auto, unfolding(crate::specs::Inner::takes_edges))]
     pub fn takes_edges(self) -> bool
         ensures { result ≡ takes_edges self.0 }
@@ -72,7 +72,7 @@ impl Low {
         }
     }
 
-    // What its delivery leaves of the word, and of a held edge.
+    /// What its delivery leaves of the word, and of a held edge.
     #[tactic(auto, unfolding(crate::specs::Inner::taken_word))]
     pub fn taken(self) -> u32
         ensures { result ≡ taken_word self.0 }

@@ -30,7 +30,7 @@ impl Entries {
 
     pub const RISE: u32 = 512;
 
-    // The pins change in two arrays of their own: a strike that took and gave the entries would copy them.
+    /// The pins change in two arrays of their own: a strike that took and gave the entries would copy them.
     pub fn struck(self, strikes: [u32; 3]) -> Entries
         ensures { result ≡ struck 3 strikes self }
     {

@@ -27,7 +27,7 @@ impl Entries {
         ok
     }
 
-    // A test of its own for each kind of part, so that each loop is worked out in vectors of one width.
+    /// A test of its own for each kind of part, so that each loop is worked out in vectors of one width.
     pub fn well_formed(self) -> bool
         ensures { result ≡ entries_ok self }
     {

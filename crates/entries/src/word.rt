@@ -105,8 +105,8 @@ impl Low {
         self.0 & Low::NOT_REMOTE
     }
 
-    // The word after a write: the value's writable bits. Remote IRR is 0 if they leave the entry edge, and as it was if
-    // they leave it level.
+    /// The word after a write: the value's writable bits. Remote IRR is 0 if they leave the entry edge, and as it was if
+    /// they leave it level.
     pub fn written(self, value: u32) -> u32
         ensures { result ≡ written self.0 value }
     {
@@ -128,8 +128,8 @@ impl Low {
         }
     }
 
-    // Bit 15, moved to 14's place, takes 14 out of the mask: a level entry may have remote IRR. With a test of its own
-    // for it a short call was a third longer (docs/BENCHMARKS.md).
+    /// Bit 15, moved to 14's place, takes 14 out of the mask: a level entry may have remote IRR. With a test of its own
+    /// for it a short call was a third longer (docs/BENCHMARKS.md).
     pub fn word_ok(self) -> bool
         ensures { result ≡ word_ok self.0 }
     {
