@@ -202,8 +202,10 @@ impl Timers {
         }
     }
 
-    // ---- calls on any state: 5 is tested first
+    // ---- calls on any state: 5 is tested first. An `if` each: as a Result the test would need a `match` in its place.
 
+    /// A read.
+    #[tactic(auto, unfolding(crate::specs::Call::read_of))]
     pub fn read(self, width: u64, offset: u64) -> Turn
         ensures { result ≡ read_of self width offset }
     {
@@ -213,6 +215,8 @@ impl Timers {
         self.reading(width, offset)
     }
 
+    /// A write.
+    #[tactic(auto, unfolding(crate::specs::Call::write_of))]
     pub fn write(self, width: u64, offset: u64, value: u64) -> Turn
         ensures { result ≡ write_of self width offset value }
     {
@@ -222,6 +226,7 @@ impl Timers {
         self.writing(width, offset, value)
     }
 
+    /// So many ticks.
     pub fn advance(self, ticks: u32) -> Turn
         ensures { result ≡ advance_of self ticks }
     {
