@@ -3,10 +3,9 @@ use mathlib.Core.Bool.{true}
 use lib.ListN.{length}
 use borrow.Author.Rules.{rules}
 use Rattle.board.specs.declared.Call.{Call}
-use Rattle.board.specs.declared.Call.TheVariants as call
 use Rattle.board.specs.Formed.{well_formed}
 use Rattle.board.specs.Step.{takes, served_of}
-use Rattle.board.proofs.Formed.{Formed, Sized, formed-in}
+use Rattle.board.proofs.Formed.{Formed, formed-in}
 use Rattle.board.proofs.At.{wiring-at, advancing-at}
 use Rattle.board.proofs.Board.served.Goals as goal
 
