@@ -19,8 +19,9 @@ fn reached(a: u16, b: u16, c: u16, pin: u16) -> bool
     (a == pin) | ((b == pin) | (c == pin))
 }
 
-/// The wire rule at every pin. The pins that the timers drive are found once, and the pin is compared at the width of a
-/// route, so that the loop is worked out in vectors.
+/// The wire rule at every pin. The pins that the timers drive are found once.
+// The pin is counted beside the index, at the width of a route, here and in `kept`: by `i as u16` the loop is not worked
+// out in vectors, and a register write takes twice the instructions.
 pub fn wires(outside: [u8; 24], timers: Timers) -> [u8; 24]
     ensures { result ≡ wires_of outside timers }
 {
@@ -28,8 +29,10 @@ pub fn wires(outside: [u8; 24], timers: Timers) -> [u8; 24]
     let b = timers.driven(1);
     let c = timers.driven(2);
     let mut levels: [u8; 24] = [0; 24];
+    let mut pin: u16 = 0;
     for i in 0..Entries::PINS {
-        levels[i] = ((outside[i] == 1) | reached(a, b, c, i as u16)) as u8;
+        levels[i] = ((outside[i] == 1) | reached(a, b, c, pin)) as u8;
+        pin += 1;
     }
     levels
 }
@@ -75,9 +78,11 @@ impl Board {
         let q = self.timers.driven(1);
         let r = self.timers.driven(2);
         let mut ok = true;
+        let mut pin: u16 = 0;
         for i in 0..Entries::PINS {
-            let kept = level[i] == ((outside[i] == 1) | reached(p, q, r, i as u16)) as u8;
+            let kept = level[i] == ((outside[i] == 1) | reached(p, q, r, pin)) as u8;
             ok &= (outside[i] <= 1) & kept;
+            pin += 1;
         }
         ok
     }

@@ -16,16 +16,20 @@ use Rattle.board.proofs.Board.kept.Goals as goal
 
 pub loop-i-init : goal.loop-i-init
 unfolding all_from
-loop-i-init c = refl
+loop-i-init c = (refl, refl)
 
 pub loop-i-preserved : goal.loop-i-preserved
 loop-i-preserved c =
     let l = c.args.self.controller.entries.level in
     let o = c.args.self.outside in
     let i = c.loop-i.i in
-    let k = kept_in l o c.driven-p.result c.driven-q.result c.driven-r.result in
-    ap₂ (λ (x y : Bool). x && (leb (get_or o i 0) 1 && eqb (get_or l i 0) (bool_byte (eqb (get_or o i 0) 1 || y)))) c.loop-i.invariant c.reached.ensures
-    ∙ all_more k i
+    let k = kept_in l o c.driven-p.result c.driven-q.result c.driven-r.result in (
+      ap₂ (λ (x y : Bool). x && (leb (get_or o i 0) 1 && eqb (get_or l i 0) (bool_byte (eqb (get_or o i 0) 1 || y))))
+          c.loop-i.invariant.0
+          (c.reached.ensures ∙ ap (λ (j : ℕ). eqb c.driven-p.result j || (eqb c.driven-q.result j || eqb c.driven-r.result j)) c.loop-i.invariant.1)
+          ∙ all_more k i,
+      omega (arith, c.loop-i.invariant.1),
+    )
 
 pub returns : goal.returns
 returns c =
@@ -35,7 +39,7 @@ returns c =
     let fits : ℕ → Bool = λ i. leb (get_or o i 0) 1 in
     let same : ℕ → Bool = λ i. eqb (get_or l i 0) (bool_byte (high_at o c.args.self.timers i)) in
     let full : c.loop-i.i ≡ 24 = omega arith in
-    c.loop-i.invariant
+    c.loop-i.invariant.0
     ∙ ap (all_from k 0) full
     ∙ every-cong k (λ i. fits i && same i)
     (λ i h. ap (λ (x : Bool). fits i && eqb (get_or l i 0) (bool_byte x)) (high-by o c.args.self.timers _ _ _ c.driven-p.ensures c.driven-q.ensures c.driven-r.ensures i h))

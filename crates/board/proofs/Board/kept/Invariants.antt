@@ -12,4 +12,4 @@ abbrev pub kept_in : List ℕ → List ℕ → ℕ → ℕ → ℕ → ℕ → B
 kept_in l o p q r i = leb (get_or o i 0) 1 && eqb (get_or l i 0) (bool_byte (eqb (get_or o i 0) 1 || (eqb p i || (eqb q i || eqb r i))))
 
 abbrev pub invariant-loop-i : goal.invariant-loop-i
-invariant-loop-i l = l.ok ≡ all_from (kept_in l.level l.outside l.p l.q l.r) 0 l.i
+invariant-loop-i l = (l.ok ≡ all_from (kept_in l.level l.outside l.p l.q l.r) 0 l.i) × (l.pin ≡ l.i)

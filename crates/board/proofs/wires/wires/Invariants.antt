@@ -15,4 +15,4 @@ abbrev pub zeros : List ℕ
 zeros = replicate 24 0
 
 abbrev pub invariant-loop-i : goal.invariant-loop-i
-invariant-loop-i l = l.levels ≡ tab (rule l.outside l.a l.b l.c) 0 l.i ++ drop l.i zeros
+invariant-loop-i l = (l.levels ≡ tab (rule l.outside l.a l.b l.c) 0 l.i ++ drop l.i zeros) × (l.pin ≡ l.i)
