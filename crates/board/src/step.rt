@@ -59,12 +59,9 @@ impl Board {
         match window {
             Board::CONTROLLER => self.by_controller(self.controller.writing(width, offset, value)),
             Board::TIMERS => {
-                // The parts are taken out of the board first: else the controller is copied once more.
-                let controller = self.controller;
-                let outside = self.outside;
                 let turn = self.timers.writing(width, offset, value);
                 Turn {
-                    board: Board::joined(controller, turn.timers, outside),
+                    board: Board::joined(self.controller, turn.timers, self.outside),
                     answer: turn.answer,
                 }
             }
