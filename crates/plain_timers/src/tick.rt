@@ -1,5 +1,6 @@
 // "One tick", what one timer does in it.
 ghost use Rattle.std.specs.Prelude.{◌≡◌, ◌+◌, ◌%◌, ◌^◌, ◌&&◌, if◌then◌else◌};
+ghost use Rattle.std.specs.Option.{unwrap_or};
 ghost use Rattle.timer.specs.State.{flag, width, narrowed};
 ghost use Rattle.timer.specs.Inner.{holding};
 ghost use Rattle.timer.specs.Tick.{meets as meets_at, firing, pulsing};
@@ -60,13 +61,14 @@ pub fn pulses(t: Timer) -> bool
 }
 
 // The pin whose wire the timer holds high: "… some timer routed there has level type, interrupt enable and status, with
-// the block enabled, …". 24 is none.
+// the block enabled, …".
 #[tactic(auto, unfolding(timer::specs::Inner::holding))]
-pub fn driven(s: Timers, t: Timer) -> u16
-    ensures { result ≡ (if is_enabled s && holding t then t.route else 24) }
+pub fn driven(s: Timers, t: Timer) -> Option<u16>
+    ensures { unwrap_or result 24 ≡ (if is_enabled s && holding t then t.route else 24) }
 {
-    if (s.enabled == 1) & ((t.level_type == 1) & ((t.interrupt == 1) & (t.status == 1))) {
-        return t.route;
+    if s.enabled == 1 && t.level_type == 1 && t.interrupt == 1 && t.status == 1 {
+        Some(t.route)
+    } else {
+        None
     }
-    24
 }
