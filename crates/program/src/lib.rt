@@ -8,6 +8,8 @@ mod output;
 mod run;
 mod transfer;
 
+pub use output::Output;
+
 /// A program that runs: its name begins each message, `NAME: the file: the reason`.
 #[derive(Clone, Copy)]
 pub struct Program<'a> {

@@ -10,6 +10,13 @@ use std::io::{Error, Write};
 // The longest text of an error that is told. The C library's have at most 64 bytes.
 const REASON: usize = 256;
 
+/// What a program writes: the bytes of a new file, if one is made, and a text.
+#[derive(Clone, Copy)]
+pub struct Output<'a> {
+    pub file: Option<&'a [u8]>,
+    pub text: &'a [u8],
+}
+
 /// The system's text of an error: std puts the error's number behind it.
 fn reason(text: &str) -> &str {
     match text.split_once(" (os error ") {
@@ -95,12 +102,21 @@ impl Program<'_> {
 
     /// Writes a text to the new file that argument i names. What goes wrong is told, and then a file that was made is removed.
     /// What stands under that name already is left alone.
-    pub fn write_new(&self, i: usize, text: &[u8]) -> Result<(), Told> {
+    fn write_new(&self, i: usize, text: &[u8]) -> Result<(), Told> {
         let mut buf = [0; NAME_ROOM];
         match self.named(i, &mut buf) {
             Ok(path) => self.make_file(path, text),
             Err(error) => Err(self.failed("the new file's name", error)),
         }
+    }
+
+    /// Writes the new file, if one is made, under the name that argument i is, and prints the text of a file that is whole.
+    pub fn write(&self, i: usize, output: Output) -> Result<(), Told> {
+        if let Some(bytes) = output.file {
+            self.write_new(i, bytes)?;
+        }
+        self.print(output.text);
+        Ok(())
     }
 
     /// The usage that was asked for, on standard output.
