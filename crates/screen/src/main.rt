@@ -21,7 +21,8 @@ use settings::Settings;
 // 80 bytes for each of the 21,845 records that a log of 65,536 bytes can hold, and for the first line and the last.
 const ROOM: usize = 1747680;
 
-const USAGE: &str = "usage: screen [--settings FILE] PIN [FILE]\nReplays an event log on a board from reset, and prints a line for each record\nand for each word of the pause screen: running, asked, taken, paused.\nPIN is the pause key's pin, a decimal number from 0 to 23.\nFILE is the log, of at most 65,536 bytes; no FILE or - is standard input.\nThe FILE of --settings is a settings record of 22 bytes, with which the board is\nreset; it is standard input for -, if the log is a file.\n";
+const USAGE: &str =
+    "usage: screen [--settings FILE] PIN [FILE]\nReplays an event log on a board from reset, and prints a line for each record\nand for each word of the pause screen: running, asked, taken, paused.\nPIN is the pause key's pin, a decimal number from 0 to 23.\nFILE is the log, of at most 65,536 bytes; no FILE or - is standard input.\nThe FILE of --settings is a settings record of 22 bytes, with which the board is\nreset; it is standard input for -, if the log is a file.\n";
 
 /// A mill reset with settings, and told its pin.
 fn told(settings: Settings, pin: u64) -> MillTurn

@@ -17,7 +17,8 @@ use settings::Settings;
 // Room for the text of a record.
 const TEXT: usize = 128;
 
-const USAGE: &str = "usage: settings show [FILE]\n       settings make VENDOR PERIOD MASK0 MASK1 MASK2 ID OUT\nshow prints the settings that a record of 22 bytes has, a line for each number.\nFILE is the record; no FILE or - is standard input.\nmake writes the record of six numbers to the new file OUT, and prints the same.\nA number is decimal, or hexadecimal after 0x. VENDOR has 16 bits, PERIOD is 1 to\n100,000,000 femtoseconds, a mask is nonzero and below 2^24, ID is at most 15.\nOUT must not exist yet.\n";
+const USAGE: &str =
+    "usage: settings show [FILE]\n       settings make VENDOR PERIOD MASK0 MASK1 MASK2 ID OUT\nshow prints the settings that a record of 22 bytes has, a line for each number.\nFILE is the record; no FILE or - is standard input.\nmake writes the record of six numbers to the new file OUT, and prints the same.\nA number is decimal, or hexadecimal after 0x. VENDOR has 16 bits, PERIOD is 1 to\n100,000,000 femtoseconds, a mask is nonzero and below 2^24, ID is at most 15.\nOUT must not exist yet.\n";
 
 /// Six numbers, as the arguments say them.
 #[derive(Clone, Copy)]

@@ -28,13 +28,13 @@ shared_ref_as_front-result-in-Kept c =
 
 pub returns-in-Kept-clause-text_value : goal.returns-in-Kept-clause-text_value
 returns-in-Kept-clause-text_value c =
-    let p = whole c.args.log.now c.args.kept.now c.args.list.now (omega (arith, c.if-log-gt262144.false)) (omega arith) (omega arith) c.salvage.result c.salvage.new.kept c.salvage.new.list c.salvage.ensures.0 c.salvage.ensures.1 c.salvage.ensures.2 c.in-Kept.records c.in-Kept.bytes c.in-Kept.stretches c.in-Kept.is c.args.out.now c.report-n.new.out c.report-n.result c.report-n.ensures in
-    first _ _ _ _ p.0
+    let q = whole c.args.log.now c.args.kept.now c.args.list.now (omega (arith, c.if-log-gt262144.false)) (omega arith) (omega arith) c.salvage.result c.salvage.new.kept c.salvage.new.list c.salvage.ensures.0 c.salvage.ensures.1 c.salvage.ensures.2 c.in-Kept.records c.in-Kept.bytes c.in-Kept.stretches c.in-Kept.is c.args.out.now c.report-n.new.out c.report-n.result c.report-n.ensures in
+    first _ _ _ _ q.0
 
 pub returns-in-Kept-clause-file_value : goal.returns-in-Kept-clause-file_value
 returns-in-Kept-clause-file_value c =
-    let p = whole c.args.log.now c.args.kept.now c.args.list.now (omega (arith, c.if-log-gt262144.false)) (omega arith) (omega arith) c.salvage.result c.salvage.new.kept c.salvage.new.list c.salvage.ensures.0 c.salvage.ensures.1 c.salvage.ensures.2 c.in-Kept.records c.in-Kept.bytes c.in-Kept.stretches c.in-Kept.is c.args.out.now c.report-n.new.out c.report-n.result c.report-n.ensures in
-    (p.1.0, first _ _ _ _ (p.1.1, p.1.2))
+    let r = whole c.args.log.now c.args.kept.now c.args.list.now (omega (arith, c.if-log-gt262144.false)) (omega arith) (omega arith) c.salvage.result c.salvage.new.kept c.salvage.new.list c.salvage.ensures.0 c.salvage.ensures.1 c.salvage.ensures.2 c.in-Kept.records c.in-Kept.bytes c.in-Kept.stretches c.in-Kept.is c.args.out.now c.report-n.new.out c.report-n.result c.report-n.ensures in
+    (r.1.0, first _ _ _ _ (r.1.1, r.1.2))
 
 pub returns-in-Refused-clause-text_value : goal.returns-in-Refused-clause-text_value
 returns-in-Refused-clause-text_value c =
@@ -42,4 +42,4 @@ returns-in-Refused-clause-text_value c =
 
 pub returns-in-Refused-clause-file_value : goal.returns-in-Refused-clause-file_value
 returns-in-Refused-clause-file_value c =
-    absurd (never c.args.log.now c.args.kept.now c.args.list.now (omega (arith, c.if-log-gt262144.false)) (omega arith) (omega arith) c.salvage.result c.salvage.new.kept c.salvage.new.list c.salvage.ensures.0 c.salvage.ensures.1 c.salvage.ensures.2 c.in-Refused.field-0 c.in-Refused.is)
+    absurd (never (c.args.log.now) c.args.kept.now c.args.list.now (omega (arith, c.if-log-gt262144.false)) (omega arith) (omega arith) c.salvage.result c.salvage.new.kept c.salvage.new.list c.salvage.ensures.0 c.salvage.ensures.1 c.salvage.ensures.2 c.in-Refused.field-0 c.in-Refused.is)
