@@ -70,6 +70,8 @@ fn played<'b>(
     }
 }
 
+// This and the next three are alike in `replay`, and not generic: what a log prints would be a closure, whose contract says
+// as much as each of them does.
 /// What it prints on boards that are reset with settings.
 fn output_from<'b>(
     rt: &HostRuntime,

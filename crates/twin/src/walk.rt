@@ -37,6 +37,7 @@ fn in_portions(rt: &HostRuntime, b: Board, ticks: u32, record: u64) -> Turn
     let mut fired1: u32 = 0;
     let mut fired2: u32 = 0;
     let mut done: u32 = 0;
+    // No index counts here: a turn makes a whole portion of ticks, and the last one what is left.
     while done < ticks {
         progress::shown(rt, record, done, ticks);
         let portion = least(ticks - done);
