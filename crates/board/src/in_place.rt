@@ -12,6 +12,7 @@ use answers::{Answer, Refusal};
 use controller::Controller;
 use entries::{Entries, EntryDecision, WireDecision};
 
+// `window, width, offset, value` and `pin, level` stay parameters here too: see step.rt.
 impl Board {
     pub fn deliver_in_place(self, low: &mut [u32; 24], held: &mut [u8; 24]) -> Answer
         ensures { turn (with_entry self low.new held.new) result

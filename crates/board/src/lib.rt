@@ -64,6 +64,7 @@ pub struct CallNumbers {
 }
 
 /// The next board and the answer.
+// No Result: `turn_of` gives a board on a refusal too. Not generic with other Turns: theorems name `Turn.board`.
 #[derive(Clone, Copy, PartialEq, Eq)]
 pub struct Turn {
     pub board: Board,

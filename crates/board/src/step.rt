@@ -1,5 +1,6 @@
 // Every call: the board is tested once, unless the call is a reset, which tests its settings; then the call is served.
 // A call named -ing is what the call does once the board is known to be well formed: the monitor tests it in place.
+// `window, width, offset, value` and `pin, level` stay parameters: the entries for C and `turn_of` take them so.
 ghost use Rattle.std.specs.Prelude.{◌≡◌, true};
 ghost use Rattle.board.specs.declared.Call.TheVariants as call;
 ghost use Rattle.board.specs.State.{refused};

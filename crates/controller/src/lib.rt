@@ -19,6 +19,7 @@ pub struct Controller {
     pub entries: Entries,
 }
 
+// No Result: `turn_of` gives a state on a refusal too. Not generic: theorems name `Turn.controller`.
 #[derive(Clone, Copy)]
 pub struct Turn {
     pub controller: Controller,

@@ -64,6 +64,7 @@ impl Register {
     }
 }
 
+// `width, offset, value` stay parameters, in `Place::at` too: `read_of` and `write_of` take them, in the paper's order.
 impl Controller {
     // ---- the window
 

@@ -9,6 +9,7 @@ use crate::{Entries, EntryDecision, Low, WireDecision};
 use answers::Answer;
 
 // Pin n's element, or none.
+// No Option: above pin 23 the clauses too say a value (`value_at`), which the caller gives.
 fn at<T: Copy>(all: &[T; 24], n: usize, none: T) -> T
     ensures { result ≡ cond (ltb n 24) (slice_index_or all.now n none) none }
 {
@@ -117,6 +118,7 @@ impl WireDecision {
         }
     }
 
+    // As the one above, and not generic: the fields and the first array's type differ, and what is alike is `store`.
     #[tactic(auto, unfolding(crate::specs::Decision::stored_at))]
     pub fn apply(self, levels: &mut [u8; 24], held: &mut [u8; 24])
         ensures { (levels.new ≡ stored_at levels.old self.pin self.level)

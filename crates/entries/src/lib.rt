@@ -30,6 +30,7 @@ pub struct Entries {
 }
 
 /// What a delivery or a low-word write leaves at one pin, its low word and its held edge, and what it answers.
+// No Result: nothing is refused here, and `apply` stores what is decided without a look at the answer.
 #[derive(Clone, Copy)]
 pub struct EntryDecision {
     pub pin: usize,

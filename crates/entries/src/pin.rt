@@ -1,4 +1,5 @@
 // One pin: its low word with the level of its wire and its held edge.
+// `before, after` stay two parameters: a wire's levels around a change, as specs/Pin.antt#makes_edge takes them.
 ghost use Rattle.std.specs.Prelude.{◌≡◌};
 ghost use Rattle.entries.specs.Pin.{asserted, makes_edge, held_after, eligible, ended_word};
 ghost use Rattle.entries.specs.Inner.{takes_edges, held_by, taken_word, held_taken};

@@ -60,6 +60,7 @@ impl Entries {
         (self.destination_at(n) as u32) << Entries::DESTINATION_AT
     }
 
+    // `n, value` stay two parameters, here and below: what is written and where, as specs/Table.antt#low_written says.
     pub fn low_written(self, n: usize, value: u32) -> Entries
         ensures { result ≡ low_written self n value }
     {

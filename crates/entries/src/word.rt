@@ -6,6 +6,7 @@ use crate::Low;
 
 impl Low {
     // ---- its bits, in the order of the paper's table
+    // Numbers, and no enum: a name with `_AT` is the place that a word is shifted by, any other a mask of bits.
 
     // 7:0 vector, writable
     pub const VECTOR: u32 = 0xff;

@@ -1,4 +1,5 @@
 // The line of the first record where two engines differ, put into a lent buffer as the others are.
+// A function of the shape of others is no twin, and `out, at` stay: see lib.rt.
 ghost use Rattle.std.specs.Prelude.{◌≡◌, ◌+◌, ◌≤◌, length};
 ghost use Rattle.lines.specs.Put.{buffer_after, place_after};
 ghost use Rattle.lines.specs.Line.{differ_line};

@@ -1,4 +1,5 @@
 // The lines of a salvage's report, put into a lent buffer as the others are.
+// Functions of one shape are no twins, and `out, at` stay: see lib.rt.
 ghost use Rattle.std.specs.Prelude.{◌≡◌, ◌+◌, ◌≤◌, length};
 ghost use Rattle.lines.specs.Put.{buffer_after, place_after};
 ghost use Rattle.lines.specs.Line.{heading_line, skipped_line, kept_line};

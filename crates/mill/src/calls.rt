@@ -13,6 +13,7 @@ use board::{Board, Call, Turn};
 use settings::Settings;
 
 /// The board's turn as the mill's, beside this screen.
+// Screen and turn stay two parameters, here and below: the screen before, the board after, as `by_event` takes them.
 fn beside(screen: Screen, turn: Turn) -> MillTurn
     ensures { result ≡ mill_turn (mill turn.board screen) turn.answer }
 {
@@ -219,6 +220,7 @@ impl Mill {
         }
     }
 
+    // As `Board::step`: a trait for both would name `takes`, `served` and `refused` and a law of each, for one `if`.
     #[tactic(auto, unfolding(crate::specs::Mill::turn_of))]
     pub fn step(self, call: MillCall) -> MillTurn
         ensures { result ≡ turn_of self call }

@@ -41,6 +41,7 @@ pub enum MillCall {
 }
 
 /// The next mill and the answer.
+// No Result: `turn_of` gives a mill on a refusal too. Not generic with other Turns: theorems name `MillTurn.mill`.
 #[derive(Clone, Copy, PartialEq, Eq)]
 pub struct MillTurn {
     pub mill: Mill,

@@ -13,6 +13,7 @@ pub(crate) fn holds(held: [u8; 24], pin: u16) -> bool
 }
 
 impl Screen {
+    // Numbers, and no enum: `Screen::word` is lent memory, and any number may stand there.
     pub const RUNNING: u16 = 0;
 
     pub const ASKED: u16 = 1;

@@ -18,6 +18,7 @@ use mill::{Mill, MillTurn};
 use settings::Settings;
 
 /// The lent mill is left as the turn's, and the numbers are those of its answer.
+// As `left` of nataqvoju, and not generic: a trait that `Turn` and `MillTurn` have in common would be longer.
 fn left(m: &mut Mill, turn: MillTurn) -> Numbers
     ensures { Gives turn m.new result }
 {

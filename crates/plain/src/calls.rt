@@ -1,4 +1,5 @@
 // Every call. "Refusal 5 is tested first"; "A reset takes any state and tests only 10, never 5; …" (K6)
+// Functions and no methods of a board: `Board` is another crate's type.
 ghost use Rattle.std.specs.Prelude.{◌≡◌};
 ghost use Rattle.settings.specs.Settings.{in_range};
 ghost use Rattle.board.specs.State.{reset_to};

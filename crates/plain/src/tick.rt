@@ -35,6 +35,8 @@ fn pulsed(c: Controller, wires: [u8; 24], pin: u16) -> Controller
     plain_controller::rewired(up, wires)
 }
 
+// `m < 3` stands in three clauses here: a type for it would be turned back into the index in each.
+
 // What the firing of timer m leaves of the timers.
 fn fired(s: Timers, m: usize) -> Timers
     requires { m < 3 }

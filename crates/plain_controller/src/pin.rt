@@ -1,4 +1,5 @@
 // One pin: its entry's low word, the level of its wire, and whether it holds an edge, 0 or 1.
+// They stay parameters: they stand in three arrays of the state, and a struct would be built for each question.
 ghost use Rattle.std.specs.Prelude.{◌≡◌};
 ghost use Rattle.entries.specs.Pin.{asserted, makes_edge, held_after, eligible, ended_word, pin_ok};
 

@@ -44,6 +44,7 @@ fn settings_fit(vendor: u32, period: u32) -> bool
 
 // "… each timer's set-comparator bit is 0 unless it is periodic; … its route is at most 23; its status is 0 if it is
 // edge type; …"; "A well-formed state has settings in range and each route in its mask" (K6).
+// Mask and timer stay two parameters, in registers.rt too: they stand in two arrays of the state, which C lends.
 #[tactic(auto, unfolding(timer::specs::Formed::timer_formed))]
 fn timer_ok(mask: u32, t: Timer) -> bool
     ensures { result ≡ timer_formed mask t }

@@ -15,6 +15,7 @@ const ENAMETOOLONG: i32 = 36;
 const EILSEQ: i32 = 84;
 
 // Room for a file's name: Linux lets it have 4,095 bytes.
+// Arrays of it, and `buf` beside an argument's number: a program has no heap (docs/DECISIONS.md, reading 91).
 pub(crate) const NAME_ROOM: usize = 4096;
 
 /// What an argument is, by its bytes.

@@ -1,4 +1,5 @@
 // What a program reads.
+// `buf` is lent, and a name lies in an array: a program has no heap (docs/DECISIONS.md, reading 91).
 ghost use Rattle.std.specs.Prelude.{◌≤◌, length, IfOk};
 
 use crate::arguments::{Argument, NAME_ROOM, kind};

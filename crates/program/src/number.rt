@@ -5,6 +5,7 @@ ghost use Rattle.program.specs.Number.{digit, capped, number_in, number_of, is_h
 use crate::Program;
 
 // Linux lets an argument have 131,071 bytes.
+// An array has room for one: a program has no heap (docs/DECISIONS.md, reading 91).
 const ROOM: usize = 131072;
 
 /// What a digit says, decimal or hexadecimal.
@@ -32,6 +33,7 @@ fn longer(base: u64, n: u64, digit: u64) -> u64
 }
 
 /// The number that a text says, if it says one; u64::MAX stands for each one above it.
+// Not by std's `parse`: of a number above u64::MAX that is an error, and here u64::MAX.
 #[tactic(auto, using(crate::proofs::Numbers::empty, crate::proofs::Numbers::other, crate::proofs::Numbers::no_digit, crate::proofs::Numbers::next, crate::proofs::Numbers::all_read))]
 fn number_in(base: u64, text: &[u8]) -> Option<u64>
     requires { (0 < base) × (base ≤ 16) }

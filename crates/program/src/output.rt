@@ -1,4 +1,5 @@
 // What a program writes: its answer, a new file, its usage, and its messages, each one line on standard error.
+// A name lies in an array: a program has no heap (docs/DECISIONS.md, reading 91).
 use crate::arguments::NAME_ROOM;
 use crate::transfer::write_all;
 use crate::{Program, Told};

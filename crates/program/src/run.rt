@@ -2,6 +2,7 @@
 use crate::{Program, Told};
 
 // One byte more than a log has at most, to tell a longer one, and one more than a record of settings has.
+// Arrays of fixed size: a program has no heap (docs/DECISIONS.md, reading 91).
 const LOG_ROOM: usize = 65537;
 
 const RECORD_ROOM: usize = 23;

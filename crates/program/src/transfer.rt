@@ -5,6 +5,7 @@ ghost use Rattle.program.specs.Counts.{StepsWithin};
 use std::io::{Error, ErrorKind, Read, Result, Write};
 
 /// What a read or a write came to.
+// No `Option<Option<usize>>`: three outcomes, which both loops below match side by side.
 #[derive(Clone, Copy)]
 enum Step {
     Moved(usize),

@@ -21,6 +21,7 @@ use settings::Settings;
 // 64 bytes for each of the 21,845 records that a log of 65,536 bytes can hold, and for the last line: the bound that is proved.
 // Counted by hand, no log prints more than 928,244 bytes. A delivery's line is the longest for its bytes of log, 38 bytes and the
 // digits of its number for 3; 21,845 of them are 928,225, and `stopped 8 at 65535` is 19.
+// The text is put into an array that is lent: a program has no heap (docs/DECISIONS.md, reading 91).
 const ROOM: usize = 1398144;
 
 const USAGE: &str =

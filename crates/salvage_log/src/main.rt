@@ -16,6 +16,7 @@ use program::{Output, Program, Told};
 use salvage::Salvaged;
 
 // One byte more than is taken, to tell a longer log.
+// Arrays of fixed size, here and below: a program has no heap (docs/DECISIONS.md, reading 91).
 const LOG: usize = 262145;
 
 // The records that are kept are no more bytes than the log has.

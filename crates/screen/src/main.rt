@@ -19,12 +19,14 @@ use program::Program;
 use settings::Settings;
 
 // 80 bytes for each of the 21,845 records that a log of 65,536 bytes can hold, and for the first line and the last.
+// The text is put into an array that is lent: a program has no heap (docs/DECISIONS.md, reading 91).
 const ROOM: usize = 1747680;
 
 const USAGE: &str =
     "usage: screen [--settings FILE] PIN [FILE]\nReplays an event log on a board from reset, and prints a line for each record\nand for each word of the pause screen: running, asked, taken, paused.\nPIN is the pause key's pin, a decimal number from 0 to 23.\nFILE is the log, of at most 65,536 bytes; no FILE or - is standard input.\nThe FILE of --settings is a settings record of 22 bytes, with which the board is\nreset; it is standard input for -, if the log is a file.\n";
 
 /// A mill reset with settings, and told its pin.
+// Settings, pin and log stay parameters: they come one by one, and where one is refused the next is not read.
 fn told(settings: Settings, pin: u64) -> MillTurn
     ensures { result ≡ told_from settings pin }
 {
@@ -42,6 +44,7 @@ fn takes(settings: Settings, pin: u64) -> bool
 }
 
 /// What a log prints on a mill that was told its pin.
+// Like `played` of `replay`, and not generic: the run would be a closure, whose contract says as much as this one's.
 fn played<'b>(log: &[u8], mill: Mill, out: &'b mut [u8; ROOM]) -> &'b [u8]
     requires { well_formed mill ≡ true }
     ensures { result.now ≡ played_of log.now mill }

@@ -15,6 +15,7 @@ use program::{Output, Program, Told};
 use settings::Settings;
 
 // Room for the text of a record.
+// The text is put into an array that is lent: a program has no heap (docs/DECISIONS.md, reading 91).
 const TEXT: usize = 128;
 
 const USAGE: &str =

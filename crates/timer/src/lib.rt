@@ -41,6 +41,7 @@ pub enum Half {
 }
 
 // A timer after many ticks: itself, how often it fired, and at which tick first, from 1 (0: not at all).
+// 0, and no Option: so `run_of` says it (specs/Alone.antt#begun), which the clause of `ran` names.
 #[derive(Clone, Copy)]
 pub struct Run {
     pub timer: Timer,
@@ -98,6 +99,7 @@ fn routed(mask: u32, v: u64, old: u16) -> u16
 
 impl Timer {
     // ---- the configuration register, by bit position
+    // Numbers, and no enum: the places of bits, by which the register is shifted.
 
     // 1 level type, writable
     pub const LEVEL_TYPE: u32 = 1;

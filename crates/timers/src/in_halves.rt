@@ -1,4 +1,5 @@
 // The window four bytes at a time: a half of a register by the rule for the whole one.
+// `width, offset, value` stay parameters, as in window.rt; `half` goes with the offset of its whole register.
 ghost use Rattle.std.specs.Prelude.{◌≡◌, ◌^◌, ◌<◌, ◌≤◌, true, ◌&&◌, if◌then◌else◌, ◌≢◌, nat_eq};
 ghost use Rattle.timer.specs.Registers.{half_compared_of};
 ghost use Rattle.timers.specs.State.{at, with_timer};

@@ -31,6 +31,7 @@ pub struct Timers {
 }
 
 // What a call gives: the next state and the answer.
+// No Result: `turn_of` gives a state on a refusal too. Not generic: theorems name `Turn.timers`.
 #[derive(Clone, Copy)]
 pub struct Turn {
     pub timers: Timers,
@@ -38,6 +39,7 @@ pub struct Turn {
 }
 
 // The block after many ticks, how often each timer fired, and at which tick first, from 1 (0: not at all).
+// 0, and no Option: so `ran_of` says it (specs/Inner.antt#first), on which the board's theorem `advancing-at` stands.
 #[derive(Clone, Copy)]
 pub struct Ran {
     pub timers: Timers,
@@ -151,6 +153,7 @@ impl Timers {
     }
 
     // Its mask; past the last, none.
+    // By the index, as in `at`. 0 is no sign for none: it is the mask that no pin is in.
     fn mask_at(self, m: usize) -> u32
         ensures { result ≡ mask_at self m }
     {

@@ -1,4 +1,5 @@
 // The window: registers, and the calls on them.
+// `width, offset, value` stay parameters: `read_of` and `write_of` take them so, in the paper's order.
 ghost use Rattle.std.specs.Prelude.{◌≡◌, ◌≤◌, if◌then◌else◌};
 ghost use Rattle.timer.specs.Registers.{bit};
 ghost use Rattle.timers.specs.State.{is_enabled, with_counter, with_enabled, with_timers};

@@ -40,11 +40,13 @@ pub struct Differ {
 
 // 64 bytes for each of the 21,845 records that a log of 65,536 bytes can hold, and for three lines more: the last one, or
 // the three that tell a difference.
+// The text is put into an array that is lent: a program has no heap (docs/DECISIONS.md, reading 91).
 const ROOM: usize = 1398272;
 
 const USAGE: &str =
     "usage: twin [--settings FILE] [FILE]\nReplays an event log on two engines side by side, and prints a line for each record.\nAt the first record where they differ it prints 'differ RECORD at OFFSET' and the\nline of each, and stops. The second engine walks every tick of an advance.\nFILE is the log, of at most 65,536 bytes; no FILE or - is standard input.\n--settings resets both boards with the settings of a record, which is a file too, or -\nif the log is none.\n";
 
+// `rt` stays a parameter beside the log: it only shows how far a walk is, and no clause speaks of it.
 /// What a log prints on a board and its twin; where they differ, the text is an error.
 fn played<'b>(
     rt: &HostRuntime,

@@ -1,4 +1,5 @@
 // The plain engine's calls, a long advance in portions, so that it can be shown how far it is.
+// `rt`, board and ticks stay parameters: the runtime only shows how far it is, and the ticks are those of the call.
 ghost use Rattle.std.specs.Prelude.{◌≡◌, ◌≤◌, true};
 ghost use Rattle.board.specs.declared.Call.TheVariants as call;
 ghost use Rattle.board.specs.Formed.{well_formed};
