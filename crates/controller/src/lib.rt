@@ -10,7 +10,7 @@ mod window;
 use answers::Answer;
 use entries::Entries;
 
-// No byte of it is padding. The id and the index are wider than their registers: what doesn't fit is not well formed.
+/// No byte of it is padding. The id and the index are wider than their registers: what doesn't fit is not well formed.
 #[repr(C)]
 #[derive(Clone, Copy, PartialEq, Eq)]
 pub struct Controller {

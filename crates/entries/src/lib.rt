@@ -14,11 +14,11 @@ mod word;
 
 use answers::Answer;
 
-// The low word of an entry, taken apart by bit position.
+/// The low word of an entry, taken apart by bit position.
 #[derive(Clone, Copy)]
 pub struct Low(pub u32);
 
-// By value: low words, destinations, wire levels and held edges (0 or 1).
+/// By value: low words, destinations, wire levels and held edges (0 or 1).
 #[repr(C)]
 #[derive(Clone, Copy, PartialEq, Eq)]
 pub struct Entries {
@@ -28,7 +28,7 @@ pub struct Entries {
     pub held: [u8; 24],
 }
 
-// What a delivery or a low-word write leaves at one pin, its low word and its held edge, and what it answers.
+/// What a delivery or a low-word write leaves at one pin, its low word and its held edge, and what it answers.
 #[derive(Clone, Copy)]
 pub struct EntryDecision {
     pub pin: usize,
@@ -37,7 +37,7 @@ pub struct EntryDecision {
     pub answer: Answer,
 }
 
-// What a change of a wire leaves at its pin.
+/// What a change of a wire leaves at its pin.
 #[derive(Clone, Copy)]
 pub struct WireDecision {
     pub pin: usize,

@@ -6,6 +6,7 @@ ghost use Rattle.entries.specs.Strike.{struck_level, struck_held, struck};
 use crate::{Entries, Low};
 
 // A struck pin's level: after a pulse the wire is where it was.
+#[tactic(auto, unfolding(crate::specs::Strike::struck_level))]
 fn struck_level(pulse: bool, before: u8) -> u8
     ensures { result ≡ struck_level pulse before }
 {
@@ -13,6 +14,7 @@ fn struck_level(pulse: bool, before: u8) -> u8
 }
 
 // And whether it holds an edge.
+#[tactic(auto, unfolding(crate::specs::Strike::struck_held))]
 fn struck_held(low: u32, pulse: bool, before: u8, held: u8) -> u8
     ensures { result ≡ struck_held low pulse before held }
 {
@@ -28,17 +30,14 @@ impl Entries {
 
     pub const RISE: u32 = 512;
 
-    // The pins change in two arrays of their own: a strike that took and gave the entries would copy them.
+    /// The pins change in two arrays of their own: a strike that took and gave the entries would copy them.
     pub fn struck(self, strikes: [u32; 3]) -> Entries
         ensures { result ≡ struck 3 strikes self }
     {
         let low = self.low;
-        let destination = self.destination;
         let mut level = self.level;
         let mut held = self.held;
-        let mut i: usize = 0;
-        while i < 3 {
-            let strike = strikes[i];
+        for strike in strikes {
             let p = (strike % Entries::PULSE) as usize;
             if (Entries::PULSE <= strike) & (p < Entries::PINS) {
                 let pulse = strike < Entries::RISE;
@@ -46,13 +45,11 @@ impl Entries {
                 held[p] = struck_held(low[p], pulse, before, held[p]);
                 level[p] = struck_level(pulse, before);
             }
-            i += 1;
         }
         Entries {
-            low,
-            destination,
             level,
             held,
+            ..self
         }
     }
 }
