@@ -132,7 +132,6 @@ module _ (m : Mill) where
 module _ (s : Screen) (t : Turn) where
   pub given_by :
       (p v d l : ℕ) (x : Screen) → t.answer ≡ answer.Interrupt p v d l → x ≡ shown_after s (held_of t.board) (delivery p v) →
-      turn (mill t.board x) (answer.Interrupt p v d l) ≡ by_event s t (delivery_of t.answer)
+      turn (mill t.board x) t.answer ≡ by_event s t (delivery_of t.answer)
   given_by p v d l x e f =
-      ap (λ (y : Screen). turn (mill t.board y) (answer.Interrupt p v d l)) f
-      ∙ ap (λ (a : Answer). turn (mill t.board (shown_after s (held_of t.board) (delivery_of a))) a) (sym e)
+      ap (λ (y : Screen). turn (mill t.board y) t.answer) (f ∙ ap (λ (a : Answer). shown_after s (held_of t.board) (delivery_of a)) (sym e))

@@ -1,39 +1,12 @@
 // A board's calls by value, each by the number of its kind in a log, all by the plain engine.
 ghost use Rattle.std.specs.Prelude.{◌≡◌};
 ghost use Rattle.board.specs.State.{refused as refused_turn};
-ghost use Rattle.nataqvoju_plain.specs.Lent.{out_of};
-ghost use Rattle.nataqvoju_plain.specs.Kinds.{unknown_of, called_of};
+ghost use Rattle.nataqvoju_plain.specs.Kinds.{called_of};
 
-use crate::Out;
 use answers::{Answer, Refusal};
-use board::{Board, Call, Turn};
-use settings::Settings;
+use board::{Board, Call, CallNumbers, Turn};
 
-const READ: u64 = 1;
-
-const WRITE: u64 = 2;
-
-const WIRE: u64 = 3;
-
-const END: u64 = 4;
-
-const ADVANCE: u64 = 5;
-
-const DELIVER: u64 = 6;
-
-const RESET: u64 = 7;
-
-fn out(turn: Turn) -> Out
-    ensures { result ≡ out_of turn }
-{
-    let board = turn.board;
-    let answer = turn.answer;
-    Out {
-        board,
-        numbers: answer.numbers(),
-    }
-}
-
+// Not the board's own: the plain engine's library shares no code with it.
 fn refused(b: Board, refusal: Refusal) -> Turn
     ensures { result ≡ refused_turn b refusal }
 {
@@ -43,58 +16,18 @@ fn refused(b: Board, refusal: Refusal) -> Turn
     }
 }
 
-// No call has this kind.
-fn unknown(b: Board) -> Turn
-    ensures { result ≡ unknown_of b }
+/// Refusal 5 is tested first, for an unknown kind too.
+pub fn call(b: Board, numbers: CallNumbers) -> Turn
+    ensures { result ≡ called_of b numbers.kind numbers.p numbers.q numbers.r numbers.s }
 {
-    if plain::well_formed(b) {
-        refused(b, Refusal::Kind)
-    } else {
-        refused(b, Refusal::State)
+    match Call::try_from(numbers) {
+        Ok(call) => plain::step(b, call),
+        Err(refusal) => {
+            if plain::well_formed(b) {
+                refused(b, refusal)
+            } else {
+                refused(b, Refusal::State)
+            }
+        }
     }
-}
-
-pub fn call(b: Board, kind: u64, p: u64, q: u64, r: u64, s: u64) -> Out
-    ensures { result ≡ out_of (called_of b kind p q r s) }
-{
-    if kind == READ {
-        return out(plain::step(
-            b,
-            Call::Read {
-                window: p,
-                width: q,
-                offset: r,
-            },
-        ));
-    }
-    if kind == WRITE {
-        return out(plain::step(
-            b,
-            Call::Write {
-                window: p,
-                width: q,
-                offset: r,
-                value: s,
-            },
-        ));
-    }
-    if kind == WIRE {
-        return out(plain::step(b, Call::Wire { pin: p, level: q }));
-    }
-    if kind == END {
-        let vector = (p % 256) as u8;
-        return out(plain::step(b, Call::End { vector }));
-    }
-    if kind == ADVANCE {
-        let ticks = (p % 4294967296) as u32;
-        return out(plain::step(b, Call::Advance { ticks }));
-    }
-    if kind == DELIVER {
-        return out(plain::step(b, Call::Deliver));
-    }
-    if kind == RESET {
-        let settings = Settings::standard();
-        return out(plain::step(b, Call::Reset { settings }));
-    }
-    out(unknown(b))
 }

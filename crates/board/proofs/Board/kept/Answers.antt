@@ -16,7 +16,7 @@ use Rattle.board.proofs.Board.kept.Goals as goal
 
 pub loop-i-init : goal.loop-i-init
 unfolding all_from
-loop-i-init c = (omega arith, refl, refl)
+loop-i-init c = (refl, refl)
 
 pub loop-i-preserved : goal.loop-i-preserved
 loop-i-preserved c =
@@ -24,12 +24,11 @@ loop-i-preserved c =
     let o = c.args.self.outside in
     let i = c.loop-i.i in
     let k = kept_in l o c.driven-p.result c.driven-q.result c.driven-r.result in (
-      omega arith,
       ap₂ (λ (x y : Bool). x && (leb (get_or o i 0) 1 && eqb (get_or l i 0) (bool_byte (eqb (get_or o i 0) 1 || y))))
-          c.loop-i.invariant.1
-          (c.reached.ensures ∙ ap (λ (j : ℕ). eqb c.driven-p.result j || (eqb c.driven-q.result j || eqb c.driven-r.result j)) c.loop-i.invariant.2)
+          c.loop-i.invariant.0
+          (c.reached.ensures ∙ ap (λ (j : ℕ). eqb c.driven-p.result j || (eqb c.driven-q.result j || eqb c.driven-r.result j)) c.loop-i.invariant.1)
           ∙ all_more k i,
-      omega (arith, c.loop-i.invariant.2),
+      omega (arith, c.loop-i.invariant.1),
     )
 
 pub returns : goal.returns
@@ -40,7 +39,7 @@ returns c =
     let fits : ℕ → Bool = λ i. leb (get_or o i 0) 1 in
     let same : ℕ → Bool = λ i. eqb (get_or l i 0) (bool_byte (high_at o c.args.self.timers i)) in
     let full : c.loop-i.i ≡ 24 = omega arith in
-    c.loop-i.invariant.1
+    c.loop-i.invariant.0
     ∙ ap (all_from k 0) full
     ∙ every-cong k (λ i. fits i && same i)
     (λ i h. ap (λ (x : Bool). fits i && eqb (get_or l i 0) (bool_byte x)) (high-by o c.args.self.timers _ _ _ c.driven-p.ensures c.driven-q.ensures c.driven-r.ensures i h))

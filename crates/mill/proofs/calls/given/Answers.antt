@@ -5,7 +5,7 @@ use Rattle.answers.specs.declared.Answer.{Answer}
 use denote.Enum.Declared.{tag_of}
 use types.Run.{OneOf, miss}
 use mathlib.Core.List.{[], ◌∷◌}
-use mathlib.Core.Path.{◌≡◌, refl}
+use mathlib.Core.Path.{◌≡◌, refl, ◌∙◌}
 use Rattle.mill.proofs.Served.{given_by}
 use Rattle.mill.proofs.calls.given.Goals as goal
 
@@ -19,4 +19,4 @@ no_pin answer.Nothing k = refl
 no_pin (answer.Refused r) k = refl
 
 pub returns-in-Interrupt : goal.returns-in-Interrupt
-returns-in-Interrupt c = given_by c.args.screen c.args.turn _ _ _ _ c.given.result c.in-Interrupt.is c.given.ensures
+returns-in-Interrupt c = c.beside.ensures ∙ given_by c.args.screen c.args.turn _ _ _ _ c.given.result c.in-Interrupt.is c.given.ensures

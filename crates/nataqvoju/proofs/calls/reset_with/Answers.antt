@@ -4,7 +4,7 @@ use Rattle.nataqvoju.proofs.calls.reset_with.Goals as goal
 
 pub returns-in-Refused : goal.returns-in-Refused
 returns-in-Refused c =
-    with-refused c.args.b c.args.reading _ c.in-Refused.is
+    c.refused.ensures ∙ with-refused c.args.b c.args.reading _ c.in-Refused.is
 
 pub returns-in_default : goal.returns-in_default
 returns-in_default c = c.resetting.ensures ∙ with-other c.args.b c.args.reading c.in_default.not-Refused
