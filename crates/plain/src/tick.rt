@@ -40,48 +40,44 @@ fn fired(s: Timers, m: usize) -> Timers
     requires { m < 3 }
     ensures { result ≡ fired_of s m }
 {
-    let t = s.timer[m];
     let mut next = s;
-    next.timer[m] = plain_timers::fired(t);
+    next.timer[m] = plain_timers::fired(s.timer[m]);
     next
 }
 
 // "Then timers 0, 1, 2 in turn, each firing a step of its own: …": the firing of timer m.
+#[tactic(auto, unfolding(board::specs::Tick::effect, timers::specs::Tick::pulses_of, timers::specs::Tick::route_of))]
 fn fire(b: Board, m: usize) -> Board
     requires { m < 3 }
     ensures { result ≡ fire_of m b }
 {
-    let c = b.controller;
-    let outside = b.outside;
-    let before = b.timers;
-    let t = before.timer[m];
-    let timers = fired(before, m);
-    let levels = wires(outside, timers);
+    let t = b.timers.timer[m];
+    let timers = fired(b.timers, m);
+    let levels = wires(b.outside, timers);
     // "A firing edge timer with its interrupt enabled raises the wire of its pin and drops it again, two steps."
     if plain_timers::pulses(t) {
         return Board {
             timers,
-            controller: pulsed(c, levels, t.route),
-            outside,
+            controller: pulsed(b.controller, levels, t.route),
+            ..b
         };
     }
     // "A firing level timer sets its status, even with its interrupt disabled.", which may raise its wire. An edge
     // timer with its interrupt disabled comes here too, and its firing moves no wire.
     Board {
         timers,
-        controller: plain_controller::rewired(c, levels),
-        outside,
+        controller: plain_controller::rewired(b.controller, levels),
+        ..b
     }
 }
 
 // "… a timer fires if counter and comparator are equal (in 32-bit mode, modulo 2^32)."
+#[tactic(auto, unfolding(timers::specs::Tick::matches_of))]
 fn due(b: Board, m: usize) -> bool
     requires { m < 3 }
     ensures { result ≡ matches_of b.timers m }
 {
-    let s = b.timers;
-    let t = s.timer[m];
-    plain_timers::meets(s.counter, t)
+    plain_timers::meets(b.timers.counter, b.timers.timer[m])
 }
 
 // "An advance takes 0 to 4,294,967,295 ticks.": here n, and this engine "walks every tick" (K3). "A firing is counted
@@ -100,8 +96,7 @@ pub(crate) fn advancing(b: Board, n: u32) -> Turn
     let mut fired0: u32 = 0;
     let mut fired1: u32 = 0;
     let mut fired2: u32 = 0;
-    let mut i: u32 = 0;
-    while i < n {
+    for _i in 0..n {
         // "Enabled: the counter goes up by one modulo 2^64. Then timers 0, 1, 2 in turn, …"
         let counter = std::num::wrapping_add_u64(next.timers.counter, 1);
         next.timers.counter = counter;
@@ -117,7 +112,6 @@ pub(crate) fn advancing(b: Board, n: u32) -> Turn
             next = fire(next, 2);
             fired2 += 1;
         }
-        i += 1;
     }
     Turn {
         board: next,

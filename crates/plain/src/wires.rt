@@ -1,5 +1,6 @@
 // The wires between timers and pins.
-ghost use Rattle.std.specs.Prelude.{◌≡◌};
+ghost use Rattle.std.specs.Prelude.{◌≡◌, ◌<◌, ◌==◌};
+ghost use Rattle.std.specs.Option.{unwrap_or};
 ghost use Rattle.board.specs.Wires.{wires_of};
 ghost use Rattle.board.specs.Wires.{joined as joined_of};
 
@@ -7,29 +8,35 @@ use board::Board;
 use controller::Controller;
 use timers::Timers;
 
+// Whether the pin that a timer drives, if it drives one, is this pin.
+fn is_pin(driven: Option<u16>, pin: u16) -> bool
+    requires { pin < 24 }
+    ensures { result ≡ (unwrap_or driven 24 == pin) }
+{
+    match driven {
+        Some(route) => route == pin,
+        None => false,
+    }
+}
+
 // "A pin's wire is high if its outside wire is, or if some timer routed there has level type, interrupt enable and
 // status, with the block enabled, or during a pulse." The pulse is in tick.rt: these are the wires without one.
 pub(crate) fn wires(outside: [u8; 24], timers: Timers) -> [u8; 24]
     ensures { result ≡ wires_of outside timers }
 {
-    let t0 = timers.timer[0];
-    let t1 = timers.timer[1];
-    let t2 = timers.timer[2];
-    let a = plain_timers::driven(timers, t0);
-    let b = plain_timers::driven(timers, t1);
-    let c = plain_timers::driven(timers, t2);
-    let mut levels: [u8; 24] = [0; 24];
-    let mut i: usize = 0;
-    let mut pin: u16 = 0;
-    while i < 24 {
-        levels[i] = ((outside[i] == 1) | ((a == pin) | ((b == pin) | (c == pin)))) as u8;
-        i += 1;
-        pin += 1;
+    let a = plain_timers::driven(timers, timers.timer[0]);
+    let b = plain_timers::driven(timers, timers.timer[1]);
+    let c = plain_timers::driven(timers, timers.timer[2]);
+    let mut levels = [0; 24];
+    for pin in 0..24u16 {
+        let by_timer = is_pin(a, pin) | (is_pin(b, pin) | is_pin(c, pin));
+        levels[pin as usize] = ((outside[pin as usize] == 1) | by_timer) as u8;
     }
     levels
 }
 
 // A step that changed the timers or the outside wires: the wires are worked out anew, and edges are held.
+#[tactic(auto, unfolding(board::specs::Wires::joined))]
 pub(crate) fn joined(c: Controller, timers: Timers, outside: [u8; 24]) -> Board
     ensures { result ≡ joined_of c timers outside }
 {

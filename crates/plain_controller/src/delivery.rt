@@ -1,5 +1,6 @@
 // "Delivery step" and "End of interrupt".
 ghost use Rattle.std.specs.Prelude.{◌≡◌, ◌<◌};
+ghost use Rattle.std.specs.Option.{IfSome, unwrap_or};
 ghost use Rattle.entries.specs.Table.{first_eligible, given, taken};
 ghost use Rattle.entries.specs.Table.{ended as ended_entries};
 ghost use Rattle.controller.specs.Steps.{after_end, delivering_of};
@@ -10,18 +11,17 @@ use answers::Answer;
 use controller::{Controller, Turn};
 use entries::Entries;
 
-// "Delivery step: the lowest-numbered eligible pin …": each is tried in turn, and 24 is none.
-fn first_eligible(e: Entries) -> usize
-    ensures { result ≡ first_eligible e }
+// "Delivery step: the lowest-numbered eligible pin …": each is tried in turn.
+fn first_eligible(e: Entries) -> Option<usize>
+    ensures lowest { unwrap_or result 24 ≡ first_eligible e }
+    ensures on_a_pin { IfSome result (λ n. n < 24) }
 {
-    let mut i: usize = 0;
-    while i < 24 {
+    for i in 0..24 {
         if eligible(e.low[i], e.level[i], e.held[i]) {
-            return i;
+            return Some(i);
         }
-        i += 1;
     }
-    i
+    None
 }
 
 // "… gives its pin number, vector, destination and bit 11."
@@ -39,6 +39,7 @@ fn given(e: Entries, n: usize) -> Answer
 }
 
 // "An edge pin loses its held edge; a level pin gets remote IRR 1."
+#[tactic(auto, unfolding(entries::specs::Table::taken))]
 fn taken(e: Entries, n: usize) -> Entries
     requires { n < 24 }
     ensures { result ≡ taken e n }
@@ -53,22 +54,22 @@ fn taken(e: Entries, n: usize) -> Entries
 }
 
 // The delivery step. "No eligible pin: none, same state."
+#[tactic(auto, unfolding(controller::specs::Steps::delivering_of))]
 pub fn delivering(c: Controller) -> Turn
     ensures { result ≡ delivering_of c }
 {
-    let entries = c.entries;
-    let n = first_eligible(entries);
-    if 24 <= n {
-        return Turn {
+    match first_eligible(c.entries) {
+        Some(n) => Turn {
+            controller: Controller {
+                entries: taken(c.entries, n),
+                ..c
+            },
+            answer: given(c.entries, n),
+        },
+        None => Turn {
             controller: c,
             answer: Answer::Nothing,
-        };
-    }
-    let mut next = c;
-    next.entries = taken(entries, n);
-    Turn {
-        controller: next,
-        answer: given(entries, n),
+        },
     }
 }
 
@@ -76,13 +77,11 @@ pub fn delivering(c: Controller) -> Turn
 fn ended_entries(e: Entries, v: u8) -> Entries
     ensures { result ≡ ended_entries e v }
 {
-    let mut next = e;
-    let mut i: usize = 0;
-    while i < 24 {
-        next.low[i] = ended_word(e.low[i], v);
-        i += 1;
+    let mut low = e.low;
+    for i in 0..24 {
+        low[i] = ended_word(e.low[i], v);
     }
-    next
+    Entries { low, ..e }
 }
 
 // "End of interrupt with vector v: every level entry whose present vector is v gets remote IRR 0. …" The rest of the
@@ -90,8 +89,8 @@ fn ended_entries(e: Entries, v: u8) -> Entries
 pub fn ended(c: Controller, v: u8) -> Controller
     ensures { result ≡ after_end c v }
 {
-    let entries = c.entries;
-    let mut next = c;
-    next.entries = ended_entries(entries, v);
-    next
+    Controller {
+        entries: ended_entries(c.entries, v),
+        ..c
+    }
 }

@@ -7,6 +7,7 @@ use crate::word::{
 };
 
 // "A pin is asserted when its wire differs from its active-low bit."
+#[tactic(auto, unfolding(entries::specs::Pin::asserted))]
 fn asserted(low: u32, level: u8) -> bool
     ensures { result ≡ asserted low level }
 {
@@ -14,6 +15,7 @@ fn asserted(low: u32, level: u8) -> bool
 }
 
 // "… each unmasked edge pin that went from not asserted to asserted holds an edge. Edges on a masked pin are ignored."
+#[tactic(auto, unfolding(entries::specs::Pin::makes_edge))]
 fn makes_edge(low: u32, before: u8, after: u8) -> bool
     ensures { result ≡ makes_edge low before after }
 {
@@ -21,6 +23,7 @@ fn makes_edge(low: u32, before: u8, after: u8) -> bool
 }
 
 // A pin that makes an edge "holds an edge" after the step; any other holds what it held.
+#[tactic(auto, unfolding(entries::specs::Pin::held_after))]
 pub(crate) fn held_after(low: u32, before: u8, after: u8, held: u8) -> u8
     ensures { result ≡ held_after low before after held }
 {
@@ -32,6 +35,7 @@ pub(crate) fn held_after(low: u32, before: u8, after: u8, held: u8) -> u8
 }
 
 // "Eligible: unmasked, delivery mode 000, and either edge with an edge held, or level, asserted, remote IRR 0."
+#[tactic(auto, unfolding(entries::specs::Pin::eligible))]
 pub(crate) fn eligible(low: u32, level: u8, held: u8) -> bool
     ensures { result ≡ eligible low level held }
 {
@@ -42,6 +46,7 @@ pub(crate) fn eligible(low: u32, level: u8, held: u8) -> bool
 
 // "End of interrupt with vector v: every level entry whose present vector is v gets remote IRR 0. Edge entries are
 // untouched."
+#[tactic(auto, unfolding(entries::specs::Pin::ended_word))]
 pub(crate) fn ended_word(low: u32, v: u8) -> u32
     ensures { result ≡ ended_word low v }
 {
@@ -54,6 +59,7 @@ pub(crate) fn ended_word(low: u32, v: u8) -> u32
 
 // "Well formed: … no edge held on a level pin; stored entry words contain writable bits only, beside remote IRR; … any
 // other kept number fits its register or setting.": levels and held edges are 0 or 1.
+#[tactic(auto, unfolding(entries::specs::Pin::pin_ok))]
 pub(crate) fn pin_ok(low: u32, level: u8, held: u8) -> bool
     ensures { result ≡ pin_ok low level held }
 {

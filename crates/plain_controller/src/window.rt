@@ -62,6 +62,7 @@ fn refused(c: Controller, refusal: Refusal) -> Turn
 // ---- reading
 
 // "entry n, low word", as it reads: "Bit 12 reads 1 exactly for an eligible pin."
+#[tactic(auto, unfolding(entries::specs::Table::low_shown))]
 fn low_shown(e: Entries, n: usize) -> u32
     requires { n < 24 }
     ensures { result ≡ low_shown e n }
@@ -84,12 +85,11 @@ fn entry_read(c: Controller, k: u32) -> u32
     requires { k < 48 }
     ensures { result ≡ entry_read c k }
 {
-    let entries = c.entries;
     let n = (k / 2) as usize;
     if k % 2 == 0 {
-        low_shown(entries, n)
+        low_shown(c.entries, n)
     } else {
-        high_shown(entries, n)
+        high_shown(c.entries, n)
     }
 }
 
@@ -107,9 +107,8 @@ fn data_read(c: Controller) -> u32
 {
     let index = c.index;
     match index {
-        0x00 => id_shown(c),
+        0x00 | 0x02 => id_shown(c),
         0x01 => 0x0017_0011,
-        0x02 => id_shown(c),
         0x10..=0x3f => entry_read(c, index - 0x10),
         _ => 0,
     }
@@ -134,6 +133,7 @@ pub fn reading(c: Controller, width: u64, offset: u64) -> Turn
 
 // "A low-word write never makes an edge. If it leaves the pin level, a held edge is dropped; otherwise the held edge
 // stays, masked or not."
+#[tactic(auto, unfolding(entries::specs::Table::low_written))]
 fn low_written(e: Entries, n: usize, value: u32) -> Entries
     requires { n < 24 }
     ensures { result ≡ low_written e n value }
@@ -163,24 +163,28 @@ fn entry_written(c: Controller, k: u32, value: u32) -> Controller
     requires { k < 48 }
     ensures { result ≡ entry_written c k value }
 {
-    let entries = c.entries;
     let n = (k / 2) as usize;
-    let mut next = c;
     if k % 2 == 0 {
-        next.entries = low_written(entries, n, value);
-        return next;
+        Controller {
+            entries: low_written(c.entries, n, value),
+            ..c
+        }
+    } else {
+        Controller {
+            entries: high_written(c.entries, n, value),
+            ..c
+        }
     }
-    next.entries = high_written(entries, n, value);
-    next
 }
 
 // Index 0x00: "id, bits 27:24, writable".
 fn id_written(c: Controller, value: u32) -> Controller
     ensures { result ≡ with_id c (value / 2 ^ 24 % 16) }
 {
-    let mut next = c;
-    next.id = value / 0x1000000 % 16;
-    next
+    Controller {
+        id: value / 0x1000000 % 16,
+        ..c
+    }
 }
 
 // The register that the index names. "Other indexes read 0. Writes to them and to read-only bits answer 0 and change
@@ -201,19 +205,21 @@ fn data_written(c: Controller, value: u32) -> Controller
 fn index_written(c: Controller, value: u64) -> Controller
     ensures { result ≡ with_index c (value % 256) }
 {
-    let mut next = c;
-    next.index = (value % 256) as u32;
-    next
+    Controller {
+        index: (value % 256) as u32,
+        ..c
+    }
 }
 
 // "An access then tests … 2, 1 for the offset, 4."
+#[tactic(auto, unfolding(controller::specs::Window::writing_of))]
 pub fn writing(c: Controller, width: u64, offset: u64, value: u64) -> Turn
     ensures { result ≡ writing_of c width offset value }
 {
     if width != 4 {
         return refused(c, Refusal::Width);
     }
-    if (offset != 0x00) & (offset != 0x10) {
+    if !matches!(offset, 0x00 | 0x10) {
         return refused(c, Refusal::Offset);
     }
     if 4294967296 <= value {

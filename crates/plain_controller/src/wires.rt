@@ -12,14 +12,15 @@ use entries::Entries;
 fn wired(e: Entries, levels: [u8; 24]) -> Entries
     ensures { result ≡ wired e levels }
 {
-    let mut next = e;
-    let mut i: usize = 0;
-    while i < 24 {
-        next.held[i] = held_after(e.low[i], e.level[i], levels[i], e.held[i]);
-        i += 1;
+    let mut held = e.held;
+    for i in 0..24 {
+        held[i] = held_after(e.low[i], e.level[i], levels[i], e.held[i]);
     }
-    next.level = levels;
-    next
+    Entries {
+        held,
+        level: levels,
+        ..e
+    }
 }
 
 // The controller after a step that leaves the wires at these levels: "After every step other than a low-word write,
@@ -27,8 +28,8 @@ fn wired(e: Entries, levels: [u8; 24]) -> Entries
 pub fn rewired(c: Controller, levels: [u8; 24]) -> Controller
     ensures { result ≡ rewired c levels }
 {
-    let entries = c.entries;
-    let mut next = c;
-    next.entries = wired(entries, levels);
-    next
+    Controller {
+        entries: wired(c.entries, levels),
+        ..c
+    }
 }

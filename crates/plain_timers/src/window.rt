@@ -19,13 +19,15 @@ use timers::{Timers, Turn};
 
 // "Reset: everything writable 0, except comparators, which are 2^64 - 1." "… a timer's reset route is its mask's lowest
 // pin, …" (K6)
+#[tactic(auto, unfolding(timer::specs::State::reset_timer))]
 fn reset_timer(mask: u32) -> Timer
     ensures { result ≡ reset_timer mask }
 {
     Timer {
         comparator: 0xFFFFFFFFFFFFFFFF,
         period: 0,
-        route: lowest(mask),
+        // A mask with no pin, which no settings in range have, leaves a route to no pin.
+        route: lowest(mask).unwrap_or(24),
         level_type: 0,
         interrupt: 0,
         periodic: 0,
@@ -36,19 +38,21 @@ fn reset_timer(mask: u32) -> Timer
 }
 
 // "Reset: everything writable 0, …": the block, with its settings and its three timers.
+#[tactic(auto, unfolding(timers::specs::State::reset_to))]
 pub fn reset(settings: Settings) -> Timers
     ensures { result ≡ reset_to settings }
 {
-    let t0 = reset_timer(settings.mask0);
-    let t1 = reset_timer(settings.mask1);
-    let t2 = reset_timer(settings.mask2);
     Timers {
         counter: 0,
         tick_period: settings.period,
         vendor: settings.vendor as u32,
         masks: [settings.mask0, settings.mask1, settings.mask2],
         enabled: 0,
-        timer: [t0, t1, t2],
+        timer: [
+            reset_timer(settings.mask0),
+            reset_timer(settings.mask1),
+            reset_timer(settings.mask2),
+        ],
     }
 }
 
@@ -63,16 +67,15 @@ pub(crate) fn with_timer(s: Timers, m: usize, t: Timer) -> Timers
 }
 
 // "0x020: bit n is timer n's status. … Other bits read 0."
+#[tactic(auto, unfolding(timers::specs::Registers::status_of))]
 fn status(s: Timers) -> u64
     ensures { result ≡ status_of s }
 {
-    let t0 = s.timer[0];
-    let t1 = s.timer[1];
-    let t2 = s.timer[2];
-    one(t2.status) * 4 + (one(t1.status) * 2 + one(t0.status))
+    one(s.timer[2].status) * 4 + (one(s.timer[1].status) * 2 + one(s.timer[0].status))
 }
 
 // "… (period …, vendor …, 64-bit counter, three timers, revision 1)": bits 63:32 and 31:16 are the settings' (K6).
+#[tactic(auto, unfolding(timers::specs::Registers::capabilities_of))]
 fn capabilities(s: Timers) -> u64
     ensures { result ≡ capabilities_of s }
 {
@@ -81,23 +84,21 @@ fn capabilities(s: Timers) -> u64
 }
 
 // What a whole register reads. "Offsets not listed read 0 and ignore writes."
+#[tactic(auto, unfolding(timers::specs::Registers::register_of, timers::specs::Registers::timer_register))]
 pub(crate) fn register(s: Timers, offset: u64) -> u64
     ensures { result ≡ register_of s offset }
 {
-    let t0 = s.timer[0];
-    let t1 = s.timer[1];
-    let t2 = s.timer[2];
     match offset {
         0x000 => capabilities(s),
         0x010 => (s.enabled == 1) as u64,
         0x020 => status(s),
         0x0F0 => s.counter,
-        0x100 => configuration(s.masks[0], t0),
-        0x108 => t0.comparator,
-        0x120 => configuration(s.masks[1], t1),
-        0x128 => t1.comparator,
-        0x140 => configuration(s.masks[2], t2),
-        0x148 => t2.comparator,
+        0x100 => configuration(s.masks[0], s.timer[0]),
+        0x108 => s.timer[0].comparator,
+        0x120 => configuration(s.masks[1], s.timer[1]),
+        0x128 => s.timer[1].comparator,
+        0x140 => configuration(s.masks[2], s.timer[2]),
+        0x148 => s.timer[2].comparator,
         _ => 0,
     }
 }
@@ -106,25 +107,24 @@ pub(crate) fn register(s: Timers, offset: u64) -> u64
 fn statuses_cleared(s: Timers, value: u64) -> Timers
     ensures { result ≡ with_timers s (cleared_by value s) }
 {
-    let t0 = s.timer[0];
-    let t1 = s.timer[1];
-    let t2 = s.timer[2];
-    let mut next = s;
-    next.timer = [
-        cleared(t0, value % 2),
-        cleared(t1, value / 2 % 2),
-        cleared(t2, value / 4 % 2),
-    ];
-    next
+    Timers {
+        timer: [
+            cleared(s.timer[0], value % 2),
+            cleared(s.timer[1], value / 2 % 2),
+            cleared(s.timer[2], value / 4 % 2),
+        ],
+        ..s
+    }
 }
 
 // "0x010: bit 0 enable."
 fn enabled_written(s: Timers, value: u64) -> Timers
     ensures { result ≡ with_enabled s (bit 0 value) }
 {
-    let mut next = s;
-    next.enabled = (value % 2) as u32;
-    next
+    Timers {
+        enabled: (value % 2) as u32,
+        ..s
+    }
 }
 
 // "0x0F0: main counter. A write while enabled is ignored."
@@ -132,30 +132,30 @@ fn counter_written(s: Timers, value: u64) -> Timers
     ensures { result ≡ (if is_enabled s then s else with_counter s value) }
 {
     if s.enabled == 1 {
-        return s;
+        s
+    } else {
+        Timers {
+            counter: value,
+            ..s
+        }
     }
-    let mut next = s;
-    next.counter = value;
-    next
 }
 
 // A write to a whole register. "Offsets not listed read 0 and ignore writes."
+#[tactic(auto, unfolding(timers::specs::Registers::written_of, timers::specs::Registers::timer_written))]
 pub(crate) fn register_written(s: Timers, offset: u64, value: u64) -> Timers
     ensures { result ≡ written_of s offset value }
 {
-    let t0 = s.timer[0];
-    let t1 = s.timer[1];
-    let t2 = s.timer[2];
     match offset {
         0x010 => enabled_written(s, value),
         0x020 => statuses_cleared(s, value),
         0x0F0 => counter_written(s, value),
-        0x100 => with_timer(s, 0, configured(s.masks[0], t0, value)),
-        0x108 => with_timer(s, 0, compared(t0, value)),
-        0x120 => with_timer(s, 1, configured(s.masks[1], t1, value)),
-        0x128 => with_timer(s, 1, compared(t1, value)),
-        0x140 => with_timer(s, 2, configured(s.masks[2], t2, value)),
-        0x148 => with_timer(s, 2, compared(t2, value)),
+        0x100 => with_timer(s, 0, configured(s.masks[0], s.timer[0], value)),
+        0x108 => with_timer(s, 0, compared(s.timer[0], value)),
+        0x120 => with_timer(s, 1, configured(s.masks[1], s.timer[1], value)),
+        0x128 => with_timer(s, 1, compared(s.timer[1], value)),
+        0x140 => with_timer(s, 2, configured(s.masks[2], s.timer[2], value)),
+        0x148 => with_timer(s, 2, compared(s.timer[2], value)),
         _ => s,
     }
 }

@@ -1,4 +1,5 @@
-use Rattle.std.proofs.Common.{◌≡◌, ℕ, List, ◌++◌, drop, set, refl, ap, ◌∙◌, arith}
+use Rattle.std.proofs.Common.{◌≡◌, ℕ, Bool, ◌||◌, eqb, List, ◌++◌, get_or, drop, set, refl, ap, ◌∙◌, arith}
+use Rattle.std.specs.Option.{unwrap_or}
 use mir.Val.{bool_byte}
 use Rattle.pins.specs.Pins.{tab}
 use Rattle.pins.proofs.Fill.{fill_more, fill-all}
@@ -6,32 +7,30 @@ use Rattle.pins.proofs.Store.{pins-cong}
 use Rattle.timers.specs.Inner.{driven_of}
 use Rattle.board.specs.Wires.{high_at, wires_of}
 use Rattle.board.proofs.Rule.{high-by}
-use Rattle.plain.proofs.wires.wires.Invariants.{rule-at, rule, zeros}
+use Rattle.plain.proofs.wires.wires.Invariants.{rule, zeros}
 use Rattle.plain.proofs.wires.wires.Goals as goal
 
-pub loop-i-init : goal.loop-i-init
+pub loop-pin-init : goal.loop-pin-init
 unfolding tab
-loop-i-init c = (omega arith, refl, refl)
+loop-pin-init c = refl
 
-pub loop-i-preserved : goal.loop-i-preserved
-loop-i-preserved c =
+pub loop-pin-preserved : goal.loop-pin-preserved
+loop-pin-preserved c =
     let o = c.args.outside in
-    let i = c.loop-i.i in
-    let f = rule o c.driven-a.result c.driven-b.result c.driven-c.result in (
-      omega arith,
-      ap (λ (l : List ℕ). set l i (rule-at o c.driven-a.result c.driven-b.result c.driven-c.result i c.loop-i.pin)) c.loop-i.invariant.1
-          ∙ ap (λ (j : ℕ). set (tab f 0 i ++ drop i zeros) i (rule-at o c.driven-a.result c.driven-b.result c.driven-c.result i j)) c.loop-i.invariant.2
-          ∙ fill_more f i zeros (omega arith),
-      omega (arith, c.loop-i.invariant.2),
-    )
+    let i = c.loop-pin.pin in
+    let f = rule o (unwrap_or c.driven-a.result 24) (unwrap_or c.driven-b.result 24) (unwrap_or c.driven-c.result 24) in
+    let level = λ (x y z : Bool). bool_byte (eqb (get_or o i 0) 1 || (x || (y || z))) in
+    ap (λ (l : List ℕ). set l i (level c.is_pin.result c.is_pin-in-loop-pin.result c.is_pin-in-loop-pin-2.result)) c.loop-pin.invariant
+    ∙ (λ j. set (tab f 0 i ++ drop i zeros) i (level (c.is_pin.ensures j) (c.is_pin-in-loop-pin.ensures j) (c.is_pin-in-loop-pin-2.ensures j)))
+    ∙ fill_more f i zeros (omega arith)
 
 pub returns : goal.returns
 unfolding wires_of driven_of
 returns c =
     let s = c.args in
-    let f = rule s.outside c.driven-a.result c.driven-b.result c.driven-c.result in
-    let full : c.loop-i.i ≡ 24 = omega arith in
-    c.loop-i.invariant.1
+    let f = rule s.outside (unwrap_or c.driven-a.result 24) (unwrap_or c.driven-b.result 24) (unwrap_or c.driven-c.result 24) in
+    let full : c.loop-pin.pin ≡ 24 = omega arith in
+    c.loop-pin.invariant
     ∙ ap (λ (i : ℕ). tab f 0 i ++ drop i zeros) full
     ∙ fill-all f 24 zeros refl
     ∙ pins-cong f (λ i. bool_byte (high_at s.outside s.timers i)) 0
