@@ -65,13 +65,17 @@ impl Board {
     pub fn advancing(self, n: u32) -> Turn
         ensures { result ≡ advancing_at self n }
     {
-        let ran = self.timers.ran(n);
+        // The parts are taken out of the board first: else the controller is copied once more.
+        let before = self.timers;
+        let controller = self.controller;
+        let outside = self.outside;
+        let ran = before.ran(n);
         let fired = ran.fired;
         Turn {
             board: Board {
                 timers: ran.timers,
-                controller: self.controller.struck(strikes(self.timers, ran.first)),
-                ..self
+                controller: controller.struck(strikes(before, ran.first)),
+                outside,
             },
             answer: Answer::Fired(fired[0], fired[1], fired[2]),
         }

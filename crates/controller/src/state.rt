@@ -31,13 +31,13 @@ impl Controller {
         Controller::reset_to(0)
     }
 
+    #[tactic(auto, unfolding(crate::specs::State::well_formed))]
     pub fn well_formed(self) -> bool
         ensures { result ≡ well_formed self }
     {
-        let entries = self.entries;
         (self.id <= Controller::LAST_ID)
             & (self.index <= Controller::LAST_INDEX)
-            & entries.well_formed()
+            & self.entries.well_formed()
     }
 
     /// A refusal gives the state that came in.

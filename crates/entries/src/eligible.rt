@@ -56,6 +56,7 @@ impl Low {
 
     const KEY: u32 = 0xffff;
 
+    #[tactic(auto, unfolding(crate::specs::Inner::key_of))]
     fn key(self) -> u16
         ensures { result ≡ key_of self.0 }
     {
@@ -70,6 +71,7 @@ impl Entries {
     fn keys(low: [u32; 24]) -> [u16; 24]
         ensures { result ≡ keys_of low }
     {
+        // Not low.map(..), which is not worked in vectors: a delivery took twice as long.
         array::from_fn(|i| Low(low[i]).key())
     }
 

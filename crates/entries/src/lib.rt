@@ -19,6 +19,7 @@ use answers::Answer;
 pub struct Low(pub u32);
 
 /// By value: low words, destinations, wire levels and held edges (0 or 1).
+// A level and a held edge are a byte, and no bool: any byte pattern of lent memory is a board.
 #[repr(C)]
 #[derive(Clone, Copy, PartialEq, Eq)]
 pub struct Entries {

@@ -38,7 +38,7 @@ impl Entries {
         ensures { result ≡ destination_at self n }
     {
         let destination = self.destination;
-        if n < Entries::PINS { destination[n] } else { 0 }
+        destination.get(n).copied().unwrap_or(0)
     }
 
     pub fn low_shown(self, n: usize) -> u32

@@ -46,6 +46,7 @@ impl Low {
         (self.0 & Low::VECTOR) as u8
     }
 
+    #[tactic(auto, unfolding(crate::specs::Word::mode_of))]
     pub fn mode(self) -> u32
         ensures { result ≡ mode_of self.0 }
     {

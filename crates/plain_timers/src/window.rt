@@ -184,6 +184,7 @@ fn aligned(width: u64, offset: u64) -> bool
 }
 
 // "An access then tests … 2, 1 for the offset, …": "Width or alignment wrong: 2; 0x400 and above: 1."
+#[tactic(auto, unfolding(timers::specs::Call::reading_of))]
 pub fn reading(s: Timers, width: u64, offset: u64) -> Turn
     ensures { result ≡ reading_of s width offset }
 {
@@ -200,6 +201,7 @@ pub fn reading(s: Timers, width: u64, offset: u64) -> Turn
 }
 
 // "An access then tests … 2, 1 for the offset, 4."
+#[tactic(auto, unfolding(timers::specs::Call::writing_of))]
 pub fn writing(s: Timers, width: u64, offset: u64, value: u64) -> Turn
     ensures { result ≡ writing_of s width offset value }
 {

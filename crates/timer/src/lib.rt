@@ -15,7 +15,8 @@ ghost use Rattle.timer.specs.Closed.{times};
 
 use settings::Settings;
 
-// Flags are 0 or 1: any other value is a state that is not well formed. No byte of it is padding.
+// Flags are numbers, 0 or 1, and no bools: any byte pattern of lent memory is a timer, and one with another value is not well
+// formed. No byte of it is padding.
 #[repr(C)]
 #[derive(Clone, Copy, Default, PartialEq, Eq)]
 pub struct Timer {
@@ -69,7 +70,8 @@ pub fn placed(f: u8, k: u32) -> u64
     u64::from(f == 1).checked_shl(k).unwrap_or(0)
 }
 
-// How often a timer fires in n ticks whose first firing is due in d, and that then goes on by s.
+// How often a timer fires in n ticks whose first firing is due in d, and that then goes on by s. 0 is no tick and no step, and
+// stands for none in specs/Closed.antt#times too.
 fn firings(d: u64, s: u64, n: u32) -> u64
     ensures { result ≡ times d s n }
 {

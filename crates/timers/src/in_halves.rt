@@ -28,6 +28,7 @@ impl Timers {
     }
 
     // What an access that is allowed reads.
+    #[tactic(auto, unfolding(crate::specs::Registers::shown_of), using(crate::proofs::Stored::whole_here))]
     pub(crate) fn shown(self, width: u64, offset: u64) -> u64
         requires { aligned width offset ≡ true }
         ensures { result ≡ shown_of self width offset }

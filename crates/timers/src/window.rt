@@ -3,6 +3,7 @@ ghost use Rattle.std.specs.Prelude.{◌≡◌, ◌≤◌, if◌then◌else◌};
 ghost use Rattle.timer.specs.Registers.{bit};
 ghost use Rattle.timers.specs.State.{is_enabled, with_counter, with_enabled, with_timers};
 ghost use Rattle.timers.specs.Registers.{aligned, fits, cleared_by, status_of, capabilities_of, register_of, timer_written, written_of};
+ghost use Rattle.timers.specs.Inner.{tested, write_tested};
 ghost use Rattle.timers.specs.Call.{refused, reading_of, writing_of, read_of, write_of, advance_of};
 
 use crate::{Timers, Turn, put, timer_register};
@@ -149,41 +150,62 @@ impl Timers {
         (width != Timers::HALF_WIDTH) | (value < Timers::VALUE_END)
     }
 
+    // What every access is tested for: its width and alignment, then its offset.
+    fn accessed(width: u64, offset: u64) -> Result<(), Refusal>
+        ensures { result ≡ tested width offset }
+    {
+        if !Timers::aligned(width, offset) {
+            return Err(Refusal::Width);
+        }
+        if Timers::END <= offset {
+            return Err(Refusal::Offset);
+        }
+        Ok(())
+    }
+
+    /// A read of a state that is well formed.
+    #[tactic(auto, unfolding(crate::specs::Call::reading_of))]
     pub fn reading(self, width: u64, offset: u64) -> Turn
         ensures { result ≡ reading_of self width offset }
     {
-        if !Timers::aligned(width, offset) {
-            return self.refused(Refusal::Width);
-        }
-        if Timers::END <= offset {
-            return self.refused(Refusal::Offset);
-        }
-        Turn {
-            timers: self,
-            answer: Answer::Value(self.shown(width, offset)),
+        match Timers::accessed(width, offset) {
+            Ok(()) => Turn {
+                timers: self,
+                answer: Answer::Value(self.shown(width, offset)),
+            },
+            Err(refusal) => self.refused(refusal),
         }
     }
 
+    // What a write is tested for: then its value.
+    fn takes(width: u64, offset: u64, value: u64) -> Result<(), Refusal>
+        ensures { result ≡ write_tested width offset value }
+    {
+        Timers::accessed(width, offset)?;
+        if !Timers::fits(width, value) {
+            return Err(Refusal::Value);
+        }
+        Ok(())
+    }
+
+    /// A write to a state that is well formed.
+    #[tactic(auto, unfolding(crate::specs::Call::writing_of))]
     pub fn writing(self, width: u64, offset: u64, value: u64) -> Turn
         ensures { result ≡ writing_of self width offset value }
     {
-        if !Timers::aligned(width, offset) {
-            return self.refused(Refusal::Width);
-        }
-        if Timers::END <= offset {
-            return self.refused(Refusal::Offset);
-        }
-        if !Timers::fits(width, value) {
-            return self.refused(Refusal::Value);
-        }
-        Turn {
-            timers: self.stored(width, offset, value),
-            answer: Answer::Done,
+        match Timers::takes(width, offset, value) {
+            Ok(()) => Turn {
+                timers: self.stored(width, offset, value),
+                answer: Answer::Done,
+            },
+            Err(refusal) => self.refused(refusal),
         }
     }
 
-    // ---- calls on any state: 5 is tested first
+    // ---- calls on any state: 5 is tested first. An `if` each: as a Result the test would need a `match` in its place.
 
+    /// A read.
+    #[tactic(auto, unfolding(crate::specs::Call::read_of))]
     pub fn read(self, width: u64, offset: u64) -> Turn
         ensures { result ≡ read_of self width offset }
     {
@@ -193,6 +215,8 @@ impl Timers {
         self.reading(width, offset)
     }
 
+    /// A write.
+    #[tactic(auto, unfolding(crate::specs::Call::write_of))]
     pub fn write(self, width: u64, offset: u64, value: u64) -> Turn
         ensures { result ≡ write_of self width offset value }
     {
@@ -202,6 +226,7 @@ impl Timers {
         self.writing(width, offset, value)
     }
 
+    /// So many ticks.
     pub fn advance(self, ticks: u32) -> Turn
         ensures { result ≡ advance_of self ticks }
     {

@@ -1,4 +1,4 @@
-use Rattle.std.proofs.Common.{◌≡◌, ℕ, ◌/◌, ◌%◌, ◌^◌, ◌<◌, ap, ◌∙◌, lt_of_lt_of_le, arith, pow_mono}
+use Rattle.std.proofs.Common.{ℕ, ◌%◌, ◌^◌, ◌<◌, ap, ◌∙◌, lt_of_lt_of_le, arith, pow_mono}
 use native.Mathlib.Nat.{div-eq_of_lt}
 use lib.Bits.{and_mask, mask_lt}
 use Rattle.timer.proofs.Bits.{or-none}

@@ -1,4 +1,4 @@
-use Rattle.std.proofs.Common.{◌∙◌, ◌*◌, ◌%◌, ◌^◌, ℕ, ap}
+use Rattle.std.proofs.Common.{◌∙◌}
 use mir.Val.{bool_byte}
 use Rattle.timer.specs.State.{flag}
 use Rattle.timer.proofs.Bits.{or-none, placed-out}

@@ -1,5 +1,4 @@
 use mathlib.Core.Path.{ap}
-use Prim.Native.Nat.{ℕ}
 use lib.ListN.{get_or}
 use borrow.Author.Rules.{rules}
 use Rattle.entries.specs.Pin.{ended_word}

@@ -1,4 +1,3 @@
-use Prim.Native.Nat.{ℕ}
 use lib.ListN.{get_or}
 use borrow.Author.Rules.{rules}
 use Rattle.entries.specs.Inner.{key_of, keys_of}
