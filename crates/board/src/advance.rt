@@ -7,31 +7,33 @@ ghost use Rattle.board.specs.At.{strike_of, ordered, strikes_of, advancing_at};
 
 use crate::{Board, Call, Turn};
 use answers::Answer;
-use entries::Entries;
+use entries::strike::Strike;
 use timers::Timers;
 
 /// Timer m's strike, where it first fires at the tick given, 0 for never.
-// A number, and no enum: the controller takes an array of them.
 #[tactic(auto, unfolding(crate::specs::At::strike_of, crate::specs::At::strike_at))]
-fn strike(s: Timers, m: usize, first: u32) -> u32
+fn strike_of(s: Timers, m: usize, first: u32) -> Option<Strike>
     ensures { result ≡ strike_of s m first }
 {
     if first == 0 {
-        return 0;
-    }
-    let pin = (s.route(m) % (Entries::PULSE as usize)) as u32;
-    if s.pulses(m) {
-        Entries::PULSE + pin
+        None
+    } else if s.pulses(m) {
+        Some(Strike::Pulse(s.route(m)))
     } else if s.raises(m) {
-        Entries::RISE + pin
+        Some(Strike::Rise(s.route(m)))
     } else {
-        0
+        None
     }
 }
 
 /// Three strikes in the order of their ticks; in one tick, as they come.
 #[tactic(auto, unfolding(crate::specs::At::ordered))]
-fn ordered(f: [u32; 3], a: u32, b: u32, c: u32) -> [u32; 3]
+fn ordered(
+    f: [u32; 3],
+    a: Option<Strike>,
+    b: Option<Strike>,
+    c: Option<Strike>,
+) -> [Option<Strike>; 3]
     ensures { result ≡ ordered f a b c }
 {
     match (f[1] < f[0], f[2] < f[0], f[2] < f[1]) {
@@ -46,14 +48,14 @@ fn ordered(f: [u32; 3], a: u32, b: u32, c: u32) -> [u32; 3]
 
 /// The timers' strikes, where these are the ticks of their first firings.
 #[tactic(auto, unfolding(crate::specs::At::strikes_of))]
-fn strikes(s: Timers, f: [u32; 3]) -> [u32; 3]
+fn strikes(s: Timers, f: [u32; 3]) -> [Option<Strike>; 3]
     ensures { result ≡ strikes_of s f }
 {
     ordered(
         f,
-        strike(s, 0, f[0]),
-        strike(s, 1, f[1]),
-        strike(s, 2, f[2]),
+        strike_of(s, 0, f[0]),
+        strike_of(s, 1, f[1]),
+        strike_of(s, 2, f[2]),
     )
 }
 

@@ -2,6 +2,7 @@
 // value would store all of an array to change one element. Each is the call on the board that has these arrays; what is
 // decided is what the calls by value decide.
 ghost use Rattle.std.specs.Prelude.{◌≡◌};
+ghost use Rattle.pins.specs.Pins.{pin_at};
 ghost use Rattle.board.specs.declared.Board.{Board as AnyBoard};
 ghost use Rattle.board.specs.State.{turn, with_entry, with_wires};
 ghost use Rattle.board.specs.Step.{delivering_on_board};
@@ -10,7 +11,7 @@ ghost use Rattle.board.specs.At.{wiring_at, low_pin_of, low_write_at};
 use crate::Board;
 use answers::{Answer, Refusal};
 use controller::Controller;
-use entries::{Entries, EntryDecision, WireDecision};
+use entries::{EntryDecision, WireDecision};
 
 // `window, width, offset, value` and `pin, level` stay parameters here too: see step.rt.
 impl Board {
@@ -23,15 +24,15 @@ impl Board {
         d.answer
     }
 
-    /// The pin whose low word a write goes to, by the controller's index; 24 if it goes elsewhere or is refused.
+    /// The pin whose low word a write goes to, by the controller's index; none if it goes elsewhere or is refused.
     #[tactic(auto, unfolding(crate::specs::At::low_pin_of))]
-    pub fn low_pin(index: u32, window: u64, width: u64, offset: u64, value: u64) -> usize
-        ensures { result ≡ low_pin_of index window width offset value }
+    pub fn low_pin(index: u32, window: u64, width: u64, offset: u64, value: u64) -> Option<usize>
+        ensures { result ≡ pin_at (low_pin_of index window width offset value) }
     {
         if window == Board::CONTROLLER {
             Controller::low_pin(index, width, offset, value)
         } else {
-            Entries::PINS
+            None
         }
     }
 

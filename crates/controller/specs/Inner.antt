@@ -1,10 +1,11 @@
 -- The same meanings as the code works them out: only inner functions cite these.
-use Rattle.std.specs.Prelude.{ℕ, ◌-◌, ◌/◌, ◌%◌, ◌^◌, not, cond, ◌||◌, List, eqb, leb, ltb}
+use Rattle.std.specs.Prelude.{ℕ, ◌-◌, ◌/◌, ◌%◌, ◌^◌, not, cond, ◌||◌, List, Option, eqb, leb, ltb}
 use Rattle.std.specs.declared.result.Result.{Result}
 use Rattle.std.specs.declared.result.Result.TheVariants.{Ok, Err}
 use Rattle.answers.specs.declared.Refusal.{Refusal}
 use Rattle.answers.specs.declared.Refusal.TheVariants as refusal
 use Rattle.entries.specs.declared.EntryDecision.{EntryDecision}
+use Rattle.entries.specs.declared.strike.Strike.{Strike}
 use Rattle.entries.specs.Table.{with_low, with_held, first_eligible}
 use Rattle.entries.specs.Decision.{delivery_at}
 use Rattle.entries.specs.Inner.{wired_at}
@@ -21,7 +22,7 @@ abbrev pub rewired_at : Controller → ℕ → ℕ → Controller
 rewired_at c p x = with_entries c (wired_at c.entries p x)
 
 -- three strikes, one after the other
-abbrev pub struck_of : Controller → List ℕ → Controller
+abbrev pub struck_of : Controller → List (Option Strike) → Controller
 struck_of c k = with_entries c (struck 3 k c.entries)
 
 -- the delivery step decided, of the controller with the low words w and the held edges h

@@ -7,6 +7,7 @@ ghost use Rattle.controller.specs.Inner.{struck_of, delivery_of};
 
 use crate::{Controller, Turn};
 use answers::Refusal;
+use entries::strike::Strike;
 use entries::{Entries, EntryDecision};
 
 impl Controller {
@@ -26,7 +27,7 @@ impl Controller {
     }
 
     /// Up to three pins are struck, one after the other.
-    pub fn struck(self, strikes: [u32; 3]) -> Controller
+    pub fn struck(self, strikes: [Option<Strike>; 3]) -> Controller
         ensures { result ≡ struck_of self strikes }
     {
         Controller {

@@ -1,12 +1,12 @@
 ghost use Rattle.std.specs.Prelude.{◌≡◌, MatchResult};
 ghost use Rattle.answers.specs.declared.Answer.TheVariants as answer;
+ghost use Rattle.pins.specs.Pins.{pin_at};
 ghost use Rattle.controller.specs.Inner.{place_at, register_of, low_pin};
 ghost use Rattle.controller.specs.State.{turn, refused};
 ghost use Rattle.controller.specs.Window.{id_shown, data_read, data_written, reading_of, writing_of, read_of, write_of};
 
 use crate::{Controller, Turn};
 use answers::{Answer, Refusal};
-use entries::Entries;
 
 // The window's two places.
 #[derive(Clone, Copy)]
@@ -172,20 +172,21 @@ impl Controller {
         }
     }
 
-    /// The pin whose low word a write goes to, by the index; 24 if it goes elsewhere or is refused.
-    pub fn low_pin(index: u32, width: u64, offset: u64, value: u64) -> usize
-        ensures { result ≡ low_pin index width offset value }
+    /// The pin whose low word a write goes to, by the index; none if it goes elsewhere or is refused.
+    #[tactic(auto, unfolding(crate::specs::Inner::low_pin, crate::specs::Inner::place_at, crate::specs::Inner::register_of))]
+    pub fn low_pin(index: u32, width: u64, offset: u64, value: u64) -> Option<usize>
+        ensures { result ≡ pin_at (low_pin index width offset value) }
     {
-        if (width != Controller::WIDTH)
-            | (offset != Controller::DATA)
-            | (Controller::VALUE_END <= value)
-        {
-            return Entries::PINS;
+        let Ok(Place::Data) = Place::at(width, offset) else {
+            return None;
+        };
+        if Controller::VALUE_END <= value {
+            return None;
         }
-        if (index < Controller::ENTRIES) | (Controller::ENTRIES_END <= index) | (index & 1 == 1) {
-            return Entries::PINS;
+        match Register::from(index) {
+            Register::Low(n) => Some(n),
+            _ => None,
         }
-        ((index - Controller::ENTRIES) >> 1) as usize
     }
 
     // The state after a write to an offset of the window.

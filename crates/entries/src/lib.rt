@@ -6,7 +6,7 @@
 mod decision;
 mod eligible;
 mod pin;
-mod strike;
+pub mod strike;
 mod table;
 mod wellformed;
 mod wires;

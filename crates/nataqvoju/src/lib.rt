@@ -18,7 +18,6 @@ ghost use Rattle.nataqvoju.specs.Reset.{reset_by};
 
 use answers::{Answer, Numbers, Refusal};
 use board::{Board, Turn};
-use entries::Entries;
 use settings::Settings;
 
 /// Whether the lent board is well formed, tested where it lies: by value it would be copied first.
@@ -85,8 +84,7 @@ pub extern "C" fn nataqvoju_write(
     if !formed(b) {
         return refused();
     }
-    let n = Board::low_pin(b.controller.index, window, width, offset, value);
-    if n < Entries::PINS {
+    if let Some(n) = Board::low_pin(b.controller.index, window, width, offset, value) {
         return calls::write_low(
             n,
             value,
