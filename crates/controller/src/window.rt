@@ -42,11 +42,11 @@ enum Register {
     Unused,
 }
 
-impl Register {
+impl From<u32> for Register {
+    ghost from_gives = { λ index register. register ≡ register_of index };
+
     #[tactic(auto, unfolding(crate::specs::Inner::register_of))]
-    fn from(index: u32) -> Register
-        ensures { result ≡ register_of index }
-    {
+    fn from(index: u32) -> Register {
         match index {
             Controller::ID => Register::Id,
             Controller::VERSION => Register::Version,
