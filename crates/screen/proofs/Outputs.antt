@@ -5,8 +5,7 @@ use mathlib.Core.Bool.{Bool, true, false, ◌&&◌}
 use Prim.Native.Nat.{ℕ, ◌<◌, ◌≤◌}
 use native.Mathlib.Decide.{dec_lt}
 use native.Mathlib.Omega.{arith}
-use lib.Dec.{eqb}
-use lib.ListN.{length, take, get_or}
+use lib.ListN.{length, take}
 use lib.Seq.{length-take-le}
 use borrow.Author.Tests.{lt-ltb, le-ltb}
 use Rattle.pins.proofs.Bools.{clash}
@@ -36,7 +35,7 @@ use Rattle.settings.proofs.RoundTrip.{read-record}
 use Rattle.watch.specs.declared.Watched.{Watched}
 use Rattle.watch.specs.Watch.{text_of, watched_of, watched_out}
 use Rattle.watch.proofs.Room.{done}
-use Rattle.screen.specs.Output.{told_from, played_of, after_telling, output_from, output_of, after_reading, output_with, takes_from, takes_with, is_option}
+use Rattle.screen.specs.Output.{told_from, played_of, after_telling, output_from, output_of, after_reading, output_with, takes_from, takes_with}
 
 -- ---- a log on a mill
 
@@ -89,8 +88,8 @@ module _ (z : Settings) (pin : ℕ) (s : List ℕ) where
   unfolding after_telling
   turned_down t e r a o o' n p = whole_same (refused_of r) o o' n (output_from z pin s) (sym (ap (after_telling s t.mill) a) ∙ by_turn t e) (put_whole (refused_of r) o o' n p)
 
-  pub accepted : (t : MillTurn) → t ≡ told_from z pin → ((x : Refusal) → t.answer ≡ answer.Refused x → ⊥) → (o o' : List ℕ) (n : ℕ) → Whole (played_of s t.mill) o o' n → Whole (output_from z pin s) o o' n
-  accepted t e k o o' n w = whole_same (played_of s t.mill) o o' n (output_from z pin s) (sym (not-refused s t.mill t.answer k) ∙ by_turn t e) w
+  pub accepted : (t : MillTurn) → t ≡ told_from z pin → ((x : Refusal) → t.answer ≡ answer.Refused x → ⊥) → played_of s t.mill ≡ output_from z pin s
+  accepted t e k = sym (not-refused s t.mill t.answer k) ∙ by_turn t e
 
 -- document 01's settings
 pub by-standard : (pin : ℕ) (s : List ℕ) (z : Settings) → z ≡ standard → output_from z pin s ≡ output_of pin s
@@ -123,8 +122,8 @@ module _ (r : List ℕ) (pin : ℕ) (s : List ℕ) (t : Reading) (e : t ≡ read
   unfolding after_reading
   rejected x a o o' n p = whole_same (settings_refused_of x) o o' n (output_with r pin s) (sym (ap (after_reading pin s t.settings) a) ∙ by-reading) (put_whole (settings_refused_of x) o o' n p)
 
-  pub settled : ((x : Refusal) → t.answer ≡ answer.Refused x → ⊥) → (o o' : List ℕ) (n : ℕ) → Whole (output_from t.settings pin s) o o' n → Whole (output_with r pin s) o o' n
-  settled k o o' n w = whole_same (output_from t.settings pin s) o o' n (output_with r pin s) (not-rejected pin s t.settings t.answer k ∙ by-reading) w
+  pub settled : ((x : Refusal) → t.answer ≡ answer.Refused x → ⊥) → output_from t.settings pin s ≡ output_with r pin s
+  settled k = not-rejected pin s t.settings t.answer k ∙ by-reading
 
 module _ (r : List ℕ) (pin : ℕ) (t : Reading) (e : t ≡ read_of r) where
   both : is_done t.answer && takes_from t.settings pin ≡ takes_with r pin
@@ -257,14 +256,3 @@ module _ (pin : ℕ) (s : List ℕ) where
 
   pub as-without : output_with (record_of standard) pin s ≡ output_of pin s
   as-without = by-record standard standard-in-range
-
--- ---- an argument
-
-module _ (a : List ℕ) where
-  pub no-option : length a ≤ 1 → false ≡ is_option a
-  unfolding is_option
-  no-option h = rw (le-ltb 1 (length a) h)
-
-  pub by-dash : 1 < length a → eqb (get_or a 0 0) 45 ≡ is_option a
-  unfolding is_option
-  by-dash h = rw (lt-ltb 1 (length a) h)

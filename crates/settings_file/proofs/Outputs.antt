@@ -126,21 +126,13 @@ module _ (a : Asked) (f o o' : List ℕ) (n : ℕ) where
       ((rw e w.0, rw e w.1), (sym e, rw e, rw e))
 
   module _ (x : Settings) (s : x ≡ settings_of a) (e : takes a ≡ true) (long : length f ≡ 22) where
-    long_same : length (record_of x) ≡ 22
-    long_same = ap (λ (y : Settings). length (record_of y)) s ∙ long-record a e
-
     filed : file_of a ≡ record_of x
     unfolding file_of
     filed = rw e (ap record_of (sym s))
 
-    alone : record_of x ≡ over (record_of x) f
-    alone =
-        let few : length f ≤ length (record_of x) = omega (arith, long_same) in
-        sym (ap (λ (l : List ℕ). record_of x ++ l) (drop_of_length-le f few) ∙ append-nil (record_of x))
-
-    pub whole-made : (f' : List ℕ) → f' ≡ buffer_after x f → Put (text_of x) o 0 o' n → ((n ≡ length (made_of a)) × (o' ≡ over (made_of a) o)) × ((true ≡ takes a) × (22 ≡ length (file_of a)) × (f' ≡ over (file_of a) f))
+    pub whole-made : (f' : List ℕ) → f' ≡ buffer_after x f → Put (text_of x) o 0 o' n → ((n ≡ length (made_of a)) × (o' ≡ over (made_of a) o)) × ((true ≡ takes a) × (f' ≡ file_of a))
     unfolding made_of
     whole-made f' d p =
         let w = whole_same (text_of x) o o' n (made_of a) (rw e (ap text_of s)) (put_whole (text_of x) o o' n p) in
         let r : in_range x ≡ true = ap in_range s ∙ taken-ranged a e in
-        (w, (sym e, sym (ap length filed ∙ long_same), d ∙ (written x f r long).1 ∙ alone ∙ sym (ap (λ (l : List ℕ). over l f) filed)))
+        (w, (sym e, d ∙ (written x f r long).1 ∙ sym filed))
