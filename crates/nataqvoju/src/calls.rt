@@ -6,22 +6,22 @@ ghost use Rattle.board.specs.declared.Board.{Board as AnyBoard};
 ghost use Rattle.board.specs.State.{with_entry, with_wires};
 ghost use Rattle.board.specs.At.{low_write_at};
 ghost use Rattle.board.specs.Step.{wiring_of, advancing_of, delivering_on_board};
+ghost use Rattle.settings.specs.Record.{reading_of};
 ghost use Rattle.nataqvoju.specs.Lent.{Gives};
 ghost use Rattle.nataqvoju.specs.Reset.{reset_with};
 
-use answers::{Answer, Numbers};
+use answers::{Numbers, Refusal};
 use board::{Board, Turn};
 use controller::Controller;
-use settings::Reading;
+use settings::Settings;
 
 /// A reset by what the settings' reader gave: its refusal leaves the board.
-pub fn reset_with(b: Board, reading: Reading) -> Turn
-    ensures { result ≡ reset_with b reading }
+pub fn reset_with(b: Board, read: Result<Settings, Refusal>) -> Turn
+    ensures { result ≡ reset_with b (reading_of read) }
 {
-    let answer = reading.answer;
-    match answer {
-        Answer::Refused(refusal) => b.refused(refusal),
-        _ => b.resetting(reading.settings),
+    match read {
+        Ok(settings) => b.resetting(settings),
+        Err(refusal) => b.refused(refusal),
     }
 }
 

@@ -52,11 +52,12 @@ pub extern "C" fn nataqvoju_reset(b: &mut Board) -> Numbers
 }
 
 /// By a lent settings record, whatever was there. A record that the reader refuses leaves the board.
+#[tactic(auto, unfolding(crate::specs::Reset::reset_by))]
 #[unsafe(no_mangle)]
 pub extern "C" fn nataqvoju_reset_settings(b: &mut Board, bytes: &[u8]) -> Numbers
     ensures { Gives (reset_by b.old bytes.now) b.new result }
 {
-    let turn = calls::reset_with(*b, Settings::read(bytes));
+    let turn = calls::reset_with(*b, Settings::accepted(bytes));
     left(b, turn)
 }
 

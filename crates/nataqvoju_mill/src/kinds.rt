@@ -1,13 +1,14 @@
 // A mill's calls by value, each by the number of its kind: the board's, then those that no log has. A reset by a lent
 // settings record is a call of its own.
 ghost use Rattle.std.specs.Prelude.{◌≡◌};
+ghost use Rattle.settings.specs.Record.{reading_of};
 ghost use Rattle.nataqvoju_mill.specs.Kinds.{named_by, called_of};
 ghost use Rattle.nataqvoju_mill.specs.Reset.{reset_with};
 
-use answers::{Answer, Refusal};
+use answers::Refusal;
 use board::{Call, CallNumbers};
 use mill::{Mill, MillCall, MillTurn};
-use settings::Reading;
+use settings::Settings;
 
 /// The call that the numbers are.
 #[tactic(auto, unfolding(crate::specs::Kinds::named_by))]
@@ -40,11 +41,11 @@ pub fn call(m: Mill, numbers: CallNumbers) -> MillTurn
 }
 
 /// A reset by what the settings' reader gave: its refusal leaves the mill.
-pub fn reset_with(m: Mill, reading: Reading) -> MillTurn
-    ensures { result ≡ reset_with m reading }
+pub fn reset_with(m: Mill, read: Result<Settings, Refusal>) -> MillTurn
+    ensures { result ≡ reset_with m (reading_of read) }
 {
-    match reading.answer {
-        Answer::Refused(refusal) => m.refused(refusal),
-        _ => m.renew(reading.settings),
+    match read {
+        Ok(settings) => m.renew(settings),
+        Err(refusal) => m.refused(refusal),
     }
 }

@@ -36,10 +36,11 @@ pub extern "C" fn nataqvoju_mill(m: &mut Mill, kind: u64, p: u64, q: u64, r: u64
 }
 
 /// A reset by a lent settings record, whatever was there. A record that the reader refuses leaves the mill.
+#[tactic(auto, unfolding(crate::specs::Reset::reset_by))]
 #[unsafe(no_mangle)]
 pub extern "C" fn nataqvoju_mill_reset_settings(m: &mut Mill, bytes: &[u8]) -> Numbers
     ensures { Gives (reset_by m.old bytes.now) m.new result }
 {
-    let turn = kinds::reset_with(*m, Settings::read(bytes));
+    let turn = kinds::reset_with(*m, Settings::accepted(bytes));
     left(m, turn)
 }

@@ -13,7 +13,6 @@ ghost use Rattle.std.specs.Prelude.{◌≡◌, is_some, IfSome};
 ghost use Rattle.salvage_log.specs.Output.{takes, output_of, file_of};
 
 use program::{Output, Program, Told};
-use salvage::Salvaged;
 
 // One byte more than is taken, to tell a longer log.
 // Arrays of fixed size, here and below: a program has no heap (docs/DECISIONS.md, reading 91).
@@ -51,19 +50,15 @@ fn output<'b>(
         };
     }
     match salvage::salvage(log, kept, list) {
-        Salvaged::Kept {
-            records,
-            bytes,
-            stretches,
-        } => {
-            let n = report::report(list, stretches, records as u64, out);
+        Ok(got) => {
+            let n = report::report(list, got.stretches, got.records as u64, out);
             Output {
-                file: Some(&kept[..bytes]),
+                file: Some(&kept[..got.bytes]),
                 text: &out[..n],
             }
         }
         // it is proved that there is always room
-        Salvaged::Refused(_) => Output {
+        Err(_) => Output {
             file: None,
             text: &[],
         },
