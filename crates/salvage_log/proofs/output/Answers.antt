@@ -1,6 +1,4 @@
-use Prim.Native.Nat.{◌≤◌}
 use native.Mathlib.Omega.{arith}
-use lib.ListN.{length}
 use Rattle.lines.specs.Line.{too_long}
 use Rattle.lines.proofs.Puts.{put-at}
 use Rattle.program.proofs.Whole.{within, first}
