@@ -13,7 +13,6 @@ ghost use Rattle.settings.specs.Settings.{in_range};
 ghost use Rattle.board.specs.State.{reset_to};
 ghost use Rattle.event_log.specs.Output.{output_from, output_of, output_with, accepts};
 
-use answers::Answer;
 use board::Board;
 use program::Program;
 use settings::Settings;
@@ -60,13 +59,12 @@ fn output<'b>(log: &[u8], out: &'b mut [u8; ROOM]) -> &'b [u8]
 fn output_with<'b>(bytes: &[u8], log: &[u8], out: &'b mut [u8; ROOM]) -> &'b [u8]
     ensures { result.now ≡ output_with bytes.now log.now }
 {
-    let reading = Settings::read(bytes);
-    match reading.answer {
-        Answer::Refused(refusal) => {
+    match Settings::accepted(bytes) {
+        Ok(settings) => output_from(settings, log, out),
+        Err(refusal) => {
             let n = lines::setting::refused(refusal, out, 0);
             &out[..n]
         }
-        _ => output_from(reading.settings, log, out),
     }
 }
 
@@ -74,10 +72,7 @@ fn output_with<'b>(bytes: &[u8], log: &[u8], out: &'b mut [u8; ROOM]) -> &'b [u8
 fn accepts(bytes: &[u8]) -> bool
     ensures { result ≡ accepts bytes.now }
 {
-    match Settings::read(bytes).answer {
-        Answer::Refused(_) => false,
-        _ => true,
-    }
+    Settings::accepted(bytes).is_ok()
 }
 
 fn main(rt: HostRuntime) {

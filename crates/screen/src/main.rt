@@ -34,13 +34,11 @@ fn told(settings: Settings, pin: u64) -> MillTurn
 }
 
 /// Whether the mill takes the pin: only then the log is read.
+#[tactic(auto, unfolding(answers::specs::Numbers::is_done))]
 fn takes(settings: Settings, pin: u64) -> bool
     ensures { result ≡ takes_from settings pin }
 {
-    match told(settings, pin).answer {
-        Answer::Refused(_) => false,
-        _ => true,
-    }
+    !matches!(told(settings, pin).answer, Answer::Refused(_))
 }
 
 /// What a log prints on a mill that was told its pin.
@@ -84,13 +82,12 @@ fn output<'b>(pin: u64, log: &[u8], out: &'b mut [u8; ROOM]) -> &'b [u8]
 fn output_with<'b>(bytes: &[u8], pin: u64, log: &[u8], out: &'b mut [u8; ROOM]) -> &'b [u8]
     ensures { result.now ≡ output_with bytes.now pin log.now }
 {
-    let reading = Settings::read(bytes);
-    match reading.answer {
-        Answer::Refused(refusal) => {
+    match Settings::accepted(bytes) {
+        Ok(settings) => output_from(settings, pin, log, out),
+        Err(refusal) => {
             let n = lines::setting::refused(refusal, out, 0);
             &out[..n]
         }
-        _ => output_from(reading.settings, pin, log, out),
     }
 }
 
@@ -98,10 +95,9 @@ fn output_with<'b>(bytes: &[u8], pin: u64, log: &[u8], out: &'b mut [u8; ROOM]) 
 fn takes_with(bytes: &[u8], pin: u64) -> bool
     ensures { result ≡ takes_with bytes.now pin }
 {
-    let reading = Settings::read(bytes);
-    match reading.answer {
-        Answer::Refused(_) => false,
-        _ => takes(reading.settings, pin),
+    match Settings::accepted(bytes) {
+        Ok(settings) => takes(settings, pin),
+        Err(_) => false,
     }
 }
 

@@ -7,10 +7,10 @@
 // `refused 10`: then no file is made. OUT is made before anything is printed; what exists already is left alone.
 #![tactic(auto)]
 
-ghost use Rattle.std.specs.Prelude.{◌≡◌, true, is_some, IfSome};
-ghost use Rattle.settings_file.specs.Output.{said_of, shown_of, fits, settings_of, takes, made_of, file_of};
+ghost use Rattle.std.specs.Prelude.{◌≡◌, true, is_some, IfSome, SomeIff};
+ghost use Rattle.settings_file.specs.Output.{shown_of, fits, settings_of, takes, made_of, file_of};
 
-use answers::{Answer, Refusal};
+use answers::Refusal;
 use program::{Output, Program, Told};
 use settings::Settings;
 
@@ -46,64 +46,45 @@ impl Asked {
     }
 }
 
-/// The text of settings, or why there are none.
-fn said<'b>(settings: Settings, answer: Answer, out: &'b mut [u8; TEXT]) -> &'b [u8]
-    ensures { result.now ≡ said_of settings answer }
-{
-    match answer {
-        Answer::Refused(refusal) => {
-            let n = lines::refused(refusal, out, 0);
-            &out[..n]
-        }
-        _ => {
-            let n = lines::setting::text(settings, out, 0);
-            &out[..n]
-        }
-    }
-}
-
 /// The whole output for a record.
 fn shown<'b>(bytes: &[u8], out: &'b mut [u8; TEXT]) -> &'b [u8]
     ensures { result.now ≡ shown_of bytes.now }
 {
-    let reading = Settings::read(bytes);
-    said(reading.settings, reading.answer, out)
-}
-
-/// Each number fits its field.
-fn fits(asked: Asked) -> bool
-    ensures { result ≡ fits asked }
-{
-    (asked.vendor < 0x1_0000)
-        & ((asked.period < 0x1_0000_0000)
-            & ((asked.mask0 < 0x1_0000_0000)
-                & ((asked.mask1 < 0x1_0000_0000)
-                    & ((asked.mask2 < 0x1_0000_0000) & (asked.id < 0x100)))))
-}
-
-fn settings_of(asked: Asked) -> Settings
-    requires { fits asked ≡ true }
-    ensures { result ≡ settings_of asked }
-{
-    Settings {
-        vendor: asked.vendor as u16,
-        period: asked.period as u32,
-        mask0: asked.mask0 as u32,
-        mask1: asked.mask1 as u32,
-        mask2: asked.mask2 as u32,
-        id: asked.id as u8,
+    match Settings::accepted(bytes) {
+        Ok(settings) => {
+            let n = lines::setting::text(settings, out, 0);
+            &out[..n]
+        }
+        Err(refusal) => {
+            let n = lines::refused(refusal, out, 0);
+            &out[..n]
+        }
     }
 }
 
-/// Each number fits its field and is in its range.
-fn takes(asked: Asked) -> bool
-    ensures { result ≡ takes asked }
+/// Each number in its field, if each fits.
+fn fields(asked: Asked) -> Option<Settings>
+    ensures { SomeIff result (fits asked ≡ true) (settings_of asked) }
 {
-    if !fits(asked) {
-        return false;
+    Some(Settings {
+        vendor: u16::try_from(asked.vendor).ok()?,
+        period: u32::try_from(asked.period).ok()?,
+        mask0: u32::try_from(asked.mask0).ok()?,
+        mask1: u32::try_from(asked.mask1).ok()?,
+        mask2: u32::try_from(asked.mask2).ok()?,
+        id: u8::try_from(asked.id).ok()?,
+    })
+}
+
+/// The settings of six numbers, if each fits its field and is in its range.
+fn taken(asked: Asked) -> Option<Settings>
+    ensures { SomeIff result (takes asked ≡ true) (settings_of asked) }
+{
+    let settings = fields(asked)?;
+    if !settings.in_range() {
+        return None;
     }
-    let settings = settings_of(asked);
-    settings.in_range()
+    Some(settings)
 }
 
 /// The whole output for six numbers.
@@ -111,19 +92,22 @@ fn made<'b>(asked: Asked, file: &'b mut [u8; 22], out: &'b mut [u8; TEXT]) -> Ou
     ensures text_value { result.text.now ≡ made_of asked }
     ensures file_value { (is_some result.file ≡ takes asked) × IfSome result.file (λ s. s.now ≡ file_of asked) }
 {
-    if !takes(asked) {
-        let n = lines::refused(Refusal::Range, out, 0);
-        return Output {
-            file: None,
-            text: &out[..n],
-        };
-    }
-    let settings = settings_of(asked);
-    settings.write(file);
-    let n = lines::setting::text(settings, out, 0);
-    Output {
-        file: Some(file),
-        text: &out[..n],
+    match taken(asked) {
+        Some(settings) => {
+            settings.write(file);
+            let n = lines::setting::text(settings, out, 0);
+            Output {
+                file: Some(file),
+                text: &out[..n],
+            }
+        }
+        None => {
+            let n = lines::refused(Refusal::Range, out, 0);
+            Output {
+                file: None,
+                text: &out[..n],
+            }
+        }
     }
 }
 

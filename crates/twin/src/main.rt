@@ -16,7 +16,6 @@ ghost use Rattle.std.specs.Prelude.{◌≡◌, true, is_ok, IfOk};
 ghost use Rattle.board.specs.State.{reset_to};
 ghost use Rattle.event_log.specs.Output.{output_from, output_of, output_with, accepts};
 
-use answers::Answer;
 use board::Board;
 use program::Program;
 use settings::Settings;
@@ -73,7 +72,7 @@ fn played<'b>(
 }
 
 // This and the next three are alike in `replay`, and not generic: what a log prints would be a closure, whose contract says
-// as much as each of them does.
+// as much as each of them does. `accepts` would make `program` stand on `event_log`, whose definition it keeps.
 /// What it prints on boards that are reset with settings.
 fn output_from<'b>(
     rt: &HostRuntime,
@@ -102,13 +101,12 @@ fn output_with<'b>(
 ) -> Result<&'b [u8], &'b [u8]>
     ensures { (is_ok result ≡ true) × IfOk result (λ s. s.now ≡ output_with bytes.now log.now) }
 {
-    let reading = Settings::read(bytes);
-    match reading.answer {
-        Answer::Refused(refusal) => {
+    match Settings::accepted(bytes) {
+        Ok(settings) => output_from(rt, settings, log, out),
+        Err(refusal) => {
             let n = lines::setting::refused(refusal, out, 0);
             Ok(&out[..n])
         }
-        _ => output_from(rt, reading.settings, log, out),
     }
 }
 
@@ -116,10 +114,7 @@ fn output_with<'b>(
 fn accepts(bytes: &[u8]) -> bool
     ensures { result ≡ accepts bytes.now }
 {
-    match Settings::read(bytes).answer {
-        Answer::Refused(_) => false,
-        _ => true,
-    }
+    Settings::accepted(bytes).is_ok()
 }
 
 /// Prints the text. A difference is told on standard error too.
