@@ -1,5 +1,5 @@
 -- The same meanings as the code works them out, and what an advance of the board asks for: only inner functions cite these.
-use Rattle.std.specs.Prelude.{ℕ, zero, suc, Bool, cond, ◌&&◌, ◌==◌, nat_lt, Result, Ok, Err}
+use Rattle.std.specs.Prelude.{ℕ, zero, suc, Bool, cond, ◌&&◌, ◌==◌, nat_lt, Result, Ok, Err, Option, Some, None}
 use mir.Val.{bool_byte}
 use Rattle.timer.specs.declared.Timer.{Timer}
 use Rattle.timer.specs.declared.Half.{Half}
@@ -29,7 +29,11 @@ ran_of s n = ran (ticks n s) (λ m. firings m n s) (λ m. first m n s)
 
 -- ---- wires
 
--- the pin that timer m drives, or 24
+-- the pin that timer m drives, or none
+unfoldable pub driven_pin : Timers → ℕ → Option ℕ
+driven_pin s m = cond (is_enabled s && holding (at s m)) (Some (at s m).route) None
+
+-- the same as a number, 24 for none
 unfoldable pub driven_of : Timers → ℕ → ℕ
 driven_of s m = cond (is_enabled s && holding (at s m)) (at s m).route 24
 

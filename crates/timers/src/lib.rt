@@ -92,8 +92,6 @@ impl Timers {
     pub const HALF_WIDTH: u64 = 4;
     // 2^32: a 4-byte write's value is below it
     pub const VALUE_END: u64 = 4294967296;
-    // in the place of a pin, where a timer drives none
-    pub const NO_PIN: u16 = 24;
 
     // ---- the state
 

@@ -1,7 +1,7 @@
 // The timers' part of the wire rule, and many ticks at once.
 ghost use Rattle.std.specs.Prelude.{◌≡◌};
 ghost use Rattle.timers.specs.Tick.{drives_of, pulses_of, route_of};
-ghost use Rattle.timers.specs.Inner.{driven_of, raises_of, ran_of};
+ghost use Rattle.timers.specs.Inner.{driven_pin, raises_of, ran_of};
 
 use crate::{Ran, Timers};
 
@@ -18,15 +18,15 @@ impl Timers {
     }
 
     // The pin whose wire timer m holds high, or none.
-    #[tactic(auto, unfolding(crate::specs::Inner::driven_of))]
-    pub fn driven(self, m: usize) -> u16
-        ensures { result ≡ driven_of self m }
+    #[tactic(auto, unfolding(crate::specs::Inner::driven_pin))]
+    pub fn driven(self, m: usize) -> Option<u16>
+        ensures { result ≡ driven_pin self m }
     {
         let t = self.at(m);
         if (self.enabled == 1) & t.holds() {
-            t.route
+            Some(t.route)
         } else {
-            Timers::NO_PIN
+            None
         }
     }
 
