@@ -1,8 +1,6 @@
 use native.Mathlib.Omega.{arith}
-use lib.ListN.{length, drop}
 use Rattle.lines.specs.Line.{too_long}
 use Rattle.lines.proofs.Puts.{put-at}
-use Rattle.event_log.specs.Output.{output_from}
 use Rattle.event_log.proofs.Outputs.{refused, whole}
 use Rattle.program.proofs.Whole.{within, first}
 use Rattle.replay.proofs.played.Goals as goal
