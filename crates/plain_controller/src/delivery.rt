@@ -10,6 +10,7 @@ use crate::word::{is_level, logical, vector, with_remote};
 use answers::Answer;
 use controller::{Controller, Turn};
 use entries::Entries;
+use std::array;
 
 // "Delivery step: the lowest-numbered eligible pin …": each is tried in turn.
 fn first_eligible(e: Entries) -> Option<usize>
@@ -58,11 +59,11 @@ pub fn delivering(c: Controller) -> Turn
 fn ended_entries(e: Entries, v: u8) -> Entries
     ensures { result ≡ ended_entries e v }
 {
-    let mut low = e.low;
-    for i in 0..24 {
-        low[i] = ended_word(e.low[i], v);
+    let low = e.low;
+    Entries {
+        low: array::from_fn(|i| ended_word(low[i], v)),
+        ..e
     }
-    Entries { low, ..e }
 }
 
 // "End of interrupt with vector v: every level entry whose present vector is v gets remote IRR 0. …" The rest of the
