@@ -13,6 +13,7 @@ use controller::Controller;
 use timers::Timers;
 
 // The wire of a pin raised. There is no pin above 23.
+#[tactic(auto, using(crate::proofs::Kept::past_last))]
 fn raised(wires: [u8; 24], pin: u16) -> [u8; 24]
     ensures { result ≡ slice_set wires pin 1 }
 {
