@@ -1,7 +1,7 @@
 -- "A pin level kept on the board is the one the wire rule gives", by the wires worked out for every pin.
-use Rattle.std.proofs.Common.{◌≡◌, ℕ, ◌<◌, Bool, true, false, eqb, List, length, get_or, refl, sym, ap, ◌∙◌, eqb-true, eq-eqb}
+use Rattle.std.proofs.Common.{◌≡◌, ℕ, ◌<◌, ◌≤◌, Bool, true, false, eqb, List, length, get_or, set, arith, refl, sym, ap, ◌∙◌, eqb-true, eq-eqb}
 use lib.Pointwise.{pointwise, bytes_decides}
-use lib.Seq.{ext_get_or}
+use lib.Seq.{ext_get_or, set_out}
 use Rattle.pins.specs.Pins.{every}
 use Rattle.pins.proofs.Every.{every-at, every_of, every-cong}
 use Rattle.entries.specs.Table.{level_at}
@@ -24,9 +24,13 @@ both true b p q = sym (p refl)
 both a true p q = q refl
 both false false p q = refl
 
-pub same-lists : (x y : List ℕ) → length x ≡ 24 → length y ≡ 24 → pointwise eqb x y ≡ every (at-pin x y)
-same-lists x y lx ly =
+pub same_lists : (x y : List ℕ) → length x ≡ 24 → length y ≡ 24 → pointwise eqb x y ≡ every (at-pin x y)
+same_lists x y lx ly =
     both (pointwise eqb x y) (every (at-pin x y))
     (λ e. every_of (at-pin x y) (λ i l. eq-eqb _ _ (ap (λ (k : List ℕ). get_or k i 0) ((bytes_decides x y).0 e))))
     (λ e.
     (bytes_decides x y).1 (ext_get_or 0 x y (lx ∙ sym ly) (λ i l. let k : i < 24 = rw lx at l in eqb-true (get_or x i 0) (get_or y i 0) (every-at (at-pin x y) e i k))))
+
+-- a wire past the last is none
+pub past_last : (x : List ℕ) (p v : ℕ) → length x ≡ 24 → 24 ≤ p → set x p v ≡ x
+past_last x p v l h = set_out x p v (omega arith)

@@ -20,6 +20,7 @@ fn outside_ok(outside: [u8; 24]) -> bool
 }
 
 // "… a pin level kept on the board is the one the wire rule gives; …"
+#[tactic(auto, using(crate::proofs::Kept::same_lists))]
 fn kept(level: [u8; 24], wires: [u8; 24]) -> bool
     ensures { result ≡ every (λ i. nat_eq (slice_index level i) (slice_index wires i)) }
 {

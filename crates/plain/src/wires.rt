@@ -6,6 +6,7 @@ ghost use Rattle.board.specs.Wires.{joined as joined_of};
 
 use board::Board;
 use controller::Controller;
+use std::array;
 use timers::Timers;
 
 // Whether the pin that a timer drives, if it drives one, is this pin.
@@ -27,12 +28,11 @@ pub(crate) fn wires(outside: [u8; 24], timers: Timers) -> [u8; 24]
     let a = plain_timers::driven(timers, timers.timer[0]);
     let b = plain_timers::driven(timers, timers.timer[1]);
     let c = plain_timers::driven(timers, timers.timer[2]);
-    let mut levels = [0; 24];
-    for pin in 0..24u16 {
-        let by_timer = is_pin(a, pin) | (is_pin(b, pin) | is_pin(c, pin));
-        levels[pin as usize] = ((outside[pin as usize] == 1) | by_timer) as u8;
-    }
-    levels
+    array::from_fn(|pin| {
+        let at = pin as u16;
+        let by_timer = is_pin(a, at) | (is_pin(b, at) | is_pin(c, at));
+        ((outside[pin] == 1) | by_timer) as u8
+    })
 }
 
 // A step that changed the timers or the outside wires: the wires are worked out anew, and edges are held.

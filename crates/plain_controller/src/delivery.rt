@@ -1,7 +1,7 @@
 // "Delivery step" and "End of interrupt".
 ghost use Rattle.std.specs.Prelude.{◌≡◌, ◌<◌};
 ghost use Rattle.std.specs.Option.{IfSome, unwrap_or};
-ghost use Rattle.entries.specs.Table.{first_eligible, given, taken};
+ghost use Rattle.entries.specs.Table.{first_eligible};
 ghost use Rattle.entries.specs.Table.{ended as ended_entries};
 ghost use Rattle.controller.specs.Steps.{after_end, delivering_of};
 
@@ -10,6 +10,7 @@ use crate::word::{is_level, logical, vector, with_remote};
 use answers::Answer;
 use controller::{Controller, Turn};
 use entries::Entries;
+use std::array;
 
 // "Delivery step: the lowest-numbered eligible pin …": each is tried in turn.
 fn first_eligible(e: Entries) -> Option<usize>
@@ -24,51 +25,32 @@ fn first_eligible(e: Entries) -> Option<usize>
     None
 }
 
-// "… gives its pin number, vector, destination and bit 11."
-fn given(e: Entries, n: usize) -> Answer
-    requires { n < 24 }
-    ensures { result ≡ given e n }
-{
-    let low = e.low[n];
-    Answer::Interrupt {
-        pin: n as u8,
-        vector: vector(low),
-        destination: e.destination[n],
-        logical: logical(low),
-    }
-}
-
-// "An edge pin loses its held edge; a level pin gets remote IRR 1."
-#[tactic(auto, unfolding(entries::specs::Table::taken))]
-fn taken(e: Entries, n: usize) -> Entries
-    requires { n < 24 }
-    ensures { result ≡ taken e n }
-{
-    let mut next = e;
-    if is_level(e.low[n]) {
-        next.low[n] = with_remote(e.low[n]);
-        return next;
-    }
-    next.held[n] = 0;
-    next
-}
-
-// The delivery step. "No eligible pin: none, same state."
-#[tactic(auto, unfolding(controller::specs::Steps::delivering_of))]
+// The delivery step. "… gives its pin number, vector, destination and bit 11. An edge pin loses its held edge; a level
+// pin gets remote IRR 1. No eligible pin: none, same state."
+#[tactic(auto, unfolding(controller::specs::Steps::delivering_of, entries::specs::Table::taken))]
 pub fn delivering(c: Controller) -> Turn
     ensures { result ≡ delivering_of c }
 {
-    match first_eligible(c.entries) {
-        Some(n) => Turn {
-            controller: Controller {
-                entries: taken(c.entries, n),
-                ..c
-            },
-            answer: given(c.entries, n),
-        },
-        None => Turn {
+    let Some(n) = first_eligible(c.entries) else {
+        return Turn {
             controller: c,
             answer: Answer::Nothing,
+        };
+    };
+    let mut entries = c.entries;
+    let low = entries.low[n];
+    if is_level(low) {
+        entries.low[n] = with_remote(low);
+    } else {
+        entries.held[n] = 0;
+    }
+    Turn {
+        controller: Controller { entries, ..c },
+        answer: Answer::Interrupt {
+            pin: n as u8,
+            vector: vector(low),
+            destination: c.entries.destination[n],
+            logical: logical(low),
         },
     }
 }
@@ -77,11 +59,11 @@ pub fn delivering(c: Controller) -> Turn
 fn ended_entries(e: Entries, v: u8) -> Entries
     ensures { result ≡ ended_entries e v }
 {
-    let mut low = e.low;
-    for i in 0..24 {
-        low[i] = ended_word(e.low[i], v);
+    let low = e.low;
+    Entries {
+        low: array::from_fn(|i| ended_word(low[i], v)),
+        ..e
     }
-    Entries { low, ..e }
 }
 
 // "End of interrupt with vector v: every level entry whose present vector is v gets remote IRR 0. …" The rest of the

@@ -2,9 +2,11 @@
 // They stay parameters: they stand in three arrays of the state, and a struct would be built for each question.
 ghost use Rattle.std.specs.Prelude.{◌≡◌};
 ghost use Rattle.entries.specs.Pin.{asserted, makes_edge, held_after, eligible, ended_word, pin_ok};
+ghost use Rattle.entries.specs.Word.{shown as shown_of};
+ghost use Rattle.entries.specs.Table.{held_after_write};
 
 use crate::word::{
-    active_low, is_level, is_masked, is_remote, mode, vector, without_remote, word_ok,
+    active_low, is_level, is_masked, is_remote, mode, shown, vector, without_remote, word_ok,
 };
 
 // "A pin is asserted when its wire differs from its active-low bit."
@@ -43,6 +45,21 @@ pub(crate) fn eligible(low: u32, level: u8, held: u8) -> bool
     !is_masked(low)
         & (mode(low) == 0)
         & (!is_level(low) & (held == 1) | is_level(low) & asserted(low, level) & !is_remote(low))
+}
+
+// A low word as it reads: "Bit 12 reads 1 exactly for an eligible pin."
+pub(crate) fn low_shown(low: u32, level: u8, held: u8) -> u32
+    ensures { result ≡ shown_of low (eligible low level held) }
+{
+    shown(low, eligible(low, level, held))
+}
+
+// What a low-word write that leaves this word leaves of the held edge: "A low-word write never makes an edge. If it
+// leaves the pin level, a held edge is dropped; otherwise the held edge stays, masked or not."
+pub(crate) fn held_written(low: u32, held: u8) -> u8
+    ensures { result ≡ held_after_write low held }
+{
+    if is_level(low) { 0 } else { held }
 }
 
 // "End of interrupt with vector v: every level entry whose present vector is v gets remote IRR 0. Edge entries are

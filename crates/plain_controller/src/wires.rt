@@ -7,17 +7,17 @@ ghost use Rattle.controller.specs.Steps.{rewired};
 use crate::pin::held_after;
 use controller::Controller;
 use entries::Entries;
+use std::array;
 
 // The wires change to these levels, all at once.
 fn wired(e: Entries, levels: [u8; 24]) -> Entries
     ensures { result ≡ wired e levels }
 {
-    let mut held = e.held;
-    for i in 0..24 {
-        held[i] = held_after(e.low[i], e.level[i], levels[i], e.held[i]);
-    }
+    let low = e.low;
+    let level = e.level;
+    let held = e.held;
     Entries {
-        held,
+        held: array::from_fn(|i| held_after(low[i], level[i], levels[i], held[i])),
         level: levels,
         ..e
     }

@@ -46,8 +46,8 @@ unlisted o ((((((((((u, a), b), c), d), t0), c0), t1), c1), t2), c2) =
     }
 
 module _ (s : Timers) (o : ℕ) where
-  pub reads-0 : Unread o → register_of s o ≡ 0
-  reads-0 u = unlisted-read s o (unlisted o u)
+  pub reads_0 : Unread o → register_of s o ≡ 0
+  reads_0 u = unlisted-read s o (unlisted o u)
 
   pub ignores : (v : ℕ) → Unwritten o → written_of s o v ≡ s
   ignores v (((((((((u, b), c), d), t0), c0), t1), c1), t2), c2) = go (ℕ_discrete o 0x000)

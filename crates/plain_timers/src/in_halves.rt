@@ -70,7 +70,7 @@ fn half_compared(t: Timer, half: Half, value: u32) -> Timer
 
 // "A half write replaces that half of a counter or configuration and then follows the rule for the whole register; a
 // status write takes the missing half as zeros." The offset is the whole register's.
-#[tactic(auto, unfolding(timers::specs::Registers::half_written))]
+#[tactic(auto, using(crate::proofs::Cases::replaces), unfolding(timers::specs::Registers::half_written))]
 fn half_written(s: Timers, half: Half, offset: u64, value: u32) -> Timers
     ensures { result ≡ half_written s half offset value }
 {

@@ -57,6 +57,7 @@ pub fn reset(settings: Settings) -> Timers
 }
 
 // The block with another timer m.
+#[tactic(auto, using(crate::proofs::Cases::put))]
 pub(crate) fn with_timer(s: Timers, m: usize, t: Timer) -> Timers
     requires { m < 3 }
     ensures { result ≡ replacing s m t }
@@ -84,7 +85,7 @@ fn capabilities(s: Timers) -> u64
 }
 
 // What a whole register reads. "Offsets not listed read 0 and ignore writes."
-#[tactic(auto, unfolding(timers::specs::Registers::register_of, timers::specs::Registers::timer_register))]
+#[tactic(auto, using(crate::proofs::Cases::reads_0), unfolding(timers::specs::Registers::register_of, timers::specs::Registers::timer_register))]
 pub(crate) fn register(s: Timers, offset: u64) -> u64
     ensures { result ≡ register_of s offset }
 {
@@ -104,6 +105,7 @@ pub(crate) fn register(s: Timers, offset: u64) -> u64
 }
 
 // "0x020: bit n is timer n's status. Writing 1 to it clears it. …", at each timer.
+#[tactic(auto, using(crate::proofs::Cases::low_bit))]
 fn statuses_cleared(s: Timers, value: u64) -> Timers
     ensures { result ≡ with_timers s (cleared_by value s) }
 {
@@ -142,7 +144,7 @@ fn counter_written(s: Timers, value: u64) -> Timers
 }
 
 // A write to a whole register. "Offsets not listed read 0 and ignore writes."
-#[tactic(auto, unfolding(timers::specs::Registers::written_of, timers::specs::Registers::timer_written))]
+#[tactic(auto, using(crate::proofs::Cases::ignores), unfolding(timers::specs::Registers::written_of, timers::specs::Registers::timer_written))]
 pub(crate) fn register_written(s: Timers, offset: u64, value: u64) -> Timers
     ensures { result ≡ written_of s offset value }
 {
