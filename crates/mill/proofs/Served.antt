@@ -130,7 +130,7 @@ module _ (m : Mill) where
     reset-rejected e = ap (λ (u : Turn). rejected m (call.Reset z) u (by_board m.screen (call.Reset z) u)) (reset-refused m.board z e)
 
 -- a reset, in range and out of it
-pub ruleset resets = (reset-done, reset-refused)
+pub ruleset resets = (reset-served, reset-rejected)
 
 -- what the code of each call of the board gives
 pub ruleset board_calls = (by-served, read-served, board-formed, served-read, served-write, served-wire, served-end, served-advance, served-deliver, ending-done, formed-in, wiring-at, advancing-at)

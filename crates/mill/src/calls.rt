@@ -150,7 +150,7 @@ impl Mill {
     }
 
     /// A reset, whatever the mill was; settings out of range are 10, and the mill stays.
-    #[tactic(auto, unfolding(crate::specs::Mill::turn_of, crate::specs::Mill::served_of, crate::specs::Screen::shown_after), using(crate::proofs::Served::resets))]
+    #[tactic(auto, using(crate::proofs::Served::resets))]
     pub fn renew(self, settings: Settings) -> MillTurn
         ensures { result ≡ turn_of self (millcall.Board (call.Reset settings)) }
     {
