@@ -34,6 +34,7 @@ fn seen(screen: Screen, turn: Turn) -> MillTurn
 }
 
 /// The screen after a delivery step.
+#[tactic(auto, unfolding(crate::specs::Screen::shown_after))]
 fn given(screen: Screen, turn: Turn) -> MillTurn
     ensures { result ≡ by_event screen turn (delivery_of turn.answer) }
 {
@@ -150,6 +151,7 @@ impl Mill {
     }
 
     /// A reset, whatever the mill was; settings out of range are 10, and the mill stays.
+    #[tactic(auto, using(crate::proofs::Served::resets))]
     pub fn renew(self, settings: Settings) -> MillTurn
         ensures { result ≡ turn_of self (millcall.Board (call.Reset settings)) }
     {
@@ -178,6 +180,7 @@ impl Mill {
     }
 
     /// What a call of the board does to a mill that takes it. A read changes neither the board nor a screen that fits it.
+    #[tactic(auto, using(crate::proofs::Served::board_calls))]
     fn board_served(self, call: Call) -> MillTurn
         requires { takes self (millcall.Board call) ≡ true }
         ensures { result ≡ turn_of self (millcall.Board call) }
@@ -209,6 +212,7 @@ impl Mill {
     }
 
     /// What a call does to a mill that it takes.
+    #[tactic(auto, unfolding(crate::specs::Mill::turn_of, crate::specs::Mill::served_of))]
     fn served(self, call: MillCall) -> MillTurn
         requires { takes self call ≡ true }
         ensures { result ≡ served_of self call }

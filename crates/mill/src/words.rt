@@ -48,6 +48,7 @@ impl Screen {
     }
 
     /// After a call that was neither a delivery nor an end of interrupt.
+    #[tactic(auto, unfolding(crate::specs::Screen::shown_after, crate::specs::Screen::moved_of))]
     pub(crate) fn seen(self, held: [u8; 24]) -> Screen
         ensures { result ≡ shown_after self held other }
     {
@@ -63,6 +64,7 @@ impl Screen {
     }
 
     /// After a delivery.
+    #[tactic(auto, unfolding(crate::specs::Screen::shown_after, crate::specs::Screen::moved_of))]
     pub(crate) fn given(self, held: [u8; 24], pin: u8, vector: u8) -> Screen
         ensures { result ≡ shown_after self held (delivery pin vector) }
     {
@@ -78,6 +80,7 @@ impl Screen {
     }
 
     /// After an end of interrupt.
+    #[tactic(auto, unfolding(crate::specs::Screen::shown_after, crate::specs::Screen::moved_of))]
     pub(crate) fn ended(self, held: [u8; 24], vector: u8) -> Screen
         ensures { result ≡ shown_after self held (end vector) }
     {
