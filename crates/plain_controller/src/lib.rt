@@ -2,7 +2,7 @@
 // way. It calls no function of the first engine. The types, and the definitions in the promises, are the same.
 // Functions here that look like the first engine's stay apart from them, and are no twins: they are a second
 // implementation, with which the first is compared.
-// Functions and no methods: the types are other crates'. A type for `n < 24` would be made the index at each use.
+// Functions and no methods: the types are other crates'.
 #![tactic(auto)]
 
 mod delivery;
