@@ -11,7 +11,7 @@ use Rattle.timers.specs.declared.Ran.{Ran}
 use Rattle.timers.specs.State.{three, at, mask_at, is_enabled}
 use Rattle.answers.specs.declared.Refusal.{Refusal}
 use Rattle.answers.specs.declared.Refusal.TheVariants as refusal
-use Rattle.timers.specs.Registers.{aligned, inside, fits, numbered}
+use Rattle.timers.specs.Registers.{aligned, inside, numbered}
 use Rattle.timers.specs.Tick.{fires_in, ticks, firings}
 
 -- ---- many ticks
@@ -46,13 +46,6 @@ raises_of s m = raising (at s m)
 -- 2 for width and alignment, then 1 for the offset
 abbrev pub tested : ℕ → ℕ → Result (Unit {0}) Refusal
 tested width offset = cond (aligned width offset) (cond (inside offset) (Ok tt) (Err refusal.Offset)) (Err refusal.Width)
-
--- a write then 4 for the value
-abbrev pub write_tested : ℕ → ℕ → ℕ → Result (Unit {0}) Refusal
-write_tested width offset value =
-    cond (aligned width offset)
-    (cond (inside offset) (cond (fits width value) (Ok tt) (Err refusal.Value)) (Err refusal.Offset))
-    (Err refusal.Width)
 
 -- ---- registers
 

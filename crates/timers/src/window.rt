@@ -4,7 +4,7 @@ ghost use Rattle.std.specs.Prelude.{◌≡◌, ◌≤◌, if◌then◌else◌};
 ghost use Rattle.timer.specs.Registers.{bit};
 ghost use Rattle.timers.specs.State.{is_enabled, with_counter, with_enabled, with_timers};
 ghost use Rattle.timers.specs.Registers.{aligned, fits, cleared_by, status_of, capabilities_of, register_of, timer_written, written_of};
-ghost use Rattle.timers.specs.Inner.{tested, write_tested};
+ghost use Rattle.timers.specs.Inner.{tested};
 ghost use Rattle.timers.specs.Call.{refused, reading_of, writing_of, read_of, write_of, advance_of};
 
 use crate::{Timers, Turn, put, timer_register};
@@ -151,7 +151,7 @@ impl Timers {
         (width != Timers::HALF_WIDTH) | (value < Timers::VALUE_END)
     }
 
-    // What every access is tested for: its width and alignment, then its offset.
+    // What a read is tested for: its width and alignment, then its offset. A write is tested for the same, but by ifs.
     fn accessed(width: u64, offset: u64) -> Result<(), Refusal>
         ensures { result ≡ tested width offset }
     {
@@ -178,28 +178,24 @@ impl Timers {
         }
     }
 
-    // What a write is tested for: then its value.
-    fn takes(width: u64, offset: u64, value: u64) -> Result<(), Refusal>
-        ensures { result ≡ write_tested width offset value }
-    {
-        Timers::accessed(width, offset)?;
-        if !Timers::fits(width, value) {
-            return Err(Refusal::Value);
-        }
-        Ok(())
-    }
-
     /// A write to a state that is well formed.
     #[tactic(auto, unfolding(crate::specs::Call::writing_of))]
     pub fn writing(self, width: u64, offset: u64, value: u64) -> Turn
         ensures { result ≡ writing_of self width offset value }
     {
-        match Timers::takes(width, offset, value) {
-            Ok(()) => Turn {
-                timers: self.stored(width, offset, value),
-                answer: Answer::Done,
-            },
-            Err(refusal) => self.refused(refusal),
+        // Ifs that return: as one Result of `accessed`, a write through the monitor's entry takes a fiftieth more instructions.
+        if !Timers::aligned(width, offset) {
+            return self.refused(Refusal::Width);
+        }
+        if Timers::END <= offset {
+            return self.refused(Refusal::Offset);
+        }
+        if !Timers::fits(width, value) {
+            return self.refused(Refusal::Value);
+        }
+        Turn {
+            timers: self.stored(width, offset, value),
+            answer: Answer::Done,
         }
     }
 
