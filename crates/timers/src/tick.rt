@@ -13,8 +13,7 @@ impl Timers {
     pub fn drives(self, pin: u16) -> bool
         ensures { result ≡ drives_of self pin }
     {
-        let [t0, t1, t2] = self.timer;
-        (self.enabled == 1) & (t0.drives(pin) | (t1.drives(pin) | t2.drives(pin)))
+        (self.enabled == 1) & self.timer.iter().any(|t| t.drives(pin))
     }
 
     // The pin whose wire timer m holds high, or none.
