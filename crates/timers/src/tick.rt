@@ -65,10 +65,8 @@ impl Timers {
                 first: [0; 3],
             };
         }
-        let [t0, t1, t2] = self.timer;
-        let r0 = t0.ran(self.counter, ticks);
-        let r1 = t1.ran(self.counter, ticks);
-        let r2 = t2.ran(self.counter, ticks);
+        let counter = self.counter;
+        let [r0, r1, r2] = self.timer.map(|t| t.ran(counter, ticks));
         Ran {
             timers: Timers {
                 counter: self.counter.wrapping_add(u64::from(ticks)),
