@@ -13,8 +13,7 @@ impl Timers {
     pub fn drives(self, pin: u16) -> bool
         ensures { result ≡ drives_of self pin }
     {
-        let [t0, t1, t2] = self.timer;
-        (self.enabled == 1) & (t0.drives(pin) | (t1.drives(pin) | t2.drives(pin)))
+        (self.enabled == 1) & self.timer.iter().any(|t| t.drives(pin))
     }
 
     // The pin whose wire timer m holds high, or none.
@@ -66,10 +65,8 @@ impl Timers {
                 first: [0; 3],
             };
         }
-        let [t0, t1, t2] = self.timer;
-        let r0 = t0.ran(self.counter, ticks);
-        let r1 = t1.ran(self.counter, ticks);
-        let r2 = t2.ran(self.counter, ticks);
+        let counter = self.counter;
+        let [r0, r1, r2] = self.timer.map(|t| t.ran(counter, ticks));
         Ran {
             timers: Timers {
                 counter: self.counter.wrapping_add(u64::from(ticks)),
