@@ -9,6 +9,7 @@ use entries::Entries;
 
 // "… no edge held on a level pin; stored entry words contain writable bits only, beside remote IRR; …", at each of
 // the 24 pins.
+#[tactic(auto, unfolding(entries::specs::Table::entries_ok, pins::specs::Pins::all_from))]
 fn entries_ok(e: Entries) -> bool
     ensures { result ≡ entries_ok e }
 {

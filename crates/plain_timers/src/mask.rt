@@ -16,7 +16,6 @@ pub(crate) fn has(mask: u32, pin: u16) -> bool
 }
 
 // "… its mask's lowest pin, …": each is tried in turn.
-#[tactic(auto, unfolding(timer::specs::Mask::lowest))]
 pub(crate) fn lowest(mask: u32) -> Option<u16>
     ensures { unwrap_or result 24 ≡ lowest_of mask }
 {

@@ -1,11 +1,8 @@
-use mathlib.Core.Path.{◌≡◌, refl, sym, ◌∙◌}
+use mathlib.Core.Path.{◌≡◌, sym, ◌∙◌}
 use native.Mathlib.Omega.{arith}
 use Rattle.pins.proofs.Scan.{scan-next, scan-here, scan-end}
 use Rattle.entries.specs.Table.{first_eligible}
 use Rattle.plain_controller.proofs.delivery.first_eligible.Goals as goal
-
-pub loop-i-init : goal.loop-i-init
-loop-i-init c = refl
 
 pub returns-then-eligible-clause-lowest : goal.returns-then-eligible-clause-lowest
 unfolding first_eligible

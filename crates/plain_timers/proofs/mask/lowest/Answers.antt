@@ -1,10 +1,7 @@
-use Rattle.std.proofs.Common.{◌≡◌, sym, refl, ◌∙◌, arith}
+use Rattle.std.proofs.Common.{◌≡◌, sym, ◌∙◌, arith}
 use Rattle.pins.proofs.Scan.{scan-next, scan-here, scan-end}
 use Rattle.timer.specs.Mask.{lowest}
 use Rattle.plain_timers.proofs.mask.lowest.Goals as goal
-
-pub loop-pin-init : goal.loop-pin-init
-loop-pin-init c = refl
 
 pub returns-then-has : goal.returns-then-has
 unfolding lowest
