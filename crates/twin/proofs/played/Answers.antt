@@ -1,9 +1,5 @@
 use mathlib.Core.Path.{refl, sym, ap, ◌∙◌}
-use mathlib.Core.List.{List}
-use Prim.Native.Nat.{ℕ}
 use native.Mathlib.Omega.{arith}
-use lib.ListN.{length, take, drop}
-use Rattle.std.specs.Prelude.{Result, Ok}
 use Rattle.lines.specs.Line.{too_long}
 use Rattle.lines.proofs.Puts.{put-at}
 use Rattle.event_log.proofs.Outputs.{refused, taken}
