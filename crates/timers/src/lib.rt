@@ -131,6 +131,8 @@ impl Timers {
     pub fn well_formed(self) -> bool
         ensures { result ≡ well_formed self }
     {
+        // Written out for each timer: as `all` over the timers zipped with their masks, measured: this test is a sixth slower, and
+        // an advance takes nearly half as long again.
         let [t0, t1, t2] = self.timer;
         let [k0, k1, k2] = self.masks;
         let timers = t0.well_formed(k0) & (t1.well_formed(k1) & t2.well_formed(k2));

@@ -25,6 +25,7 @@ impl Timers {
     fn status(self) -> u64
         ensures { result ≡ status_of self }
     {
+        // Written out for each timer: as a `for` with `|=` over the array, or as its fold, not proved.
         let [t0, t1, t2] = self.timer;
         timer::placed(t2.status, 2) | (timer::placed(t1.status, 1) | timer::placed(t0.status, 0))
     }

@@ -6,7 +6,7 @@ pub returns-then-self-ne1 : goal.returns-then-self-ne1
 returns-then-self-ne1 c = ran-off _ _ (ne_eqb _ _ c.if-self-ne1.true)
 
 pub returns : goal.returns
-returns c = 
+returns c =
     let a = c.args in
     let k : a.self.counter < 2 ^ 64 = omega arith in
     let l : length a.self.timer ≡ 3 = search rules in
