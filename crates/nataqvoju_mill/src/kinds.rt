@@ -41,6 +41,7 @@ pub fn call(m: Mill, numbers: CallNumbers) -> MillTurn
 }
 
 /// A reset by what the settings' reader gave: its refusal leaves the mill.
+// As `reset_with` of nataqvoju, and not generic: see `left` in lib.rt.
 pub fn reset_with(m: Mill, read: Result<Settings, Refusal>) -> MillTurn
     ensures { result ≡ reset_with m (reading_of read) }
 {
