@@ -19,7 +19,9 @@ impl Board {
         ensures { turn (with_entry self low.new held.new) result
             ≡ delivering_on_board (with_entry self low.old held.old) }
     {
-        let d = self.controller.delivery(low, held);
+        let Some(d) = self.controller.delivery(low, held) else {
+            return Answer::Nothing;
+        };
         d.apply(low, held);
         d.answer
     }

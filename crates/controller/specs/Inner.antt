@@ -1,5 +1,5 @@
 -- The same meanings as the code works them out: only inner functions cite these.
-use Rattle.std.specs.Prelude.{ℕ, ◌-◌, ◌/◌, ◌%◌, ◌^◌, not, cond, ◌||◌, List, Option, eqb, leb, ltb}
+use Rattle.std.specs.Prelude.{ℕ, ◌-◌, ◌/◌, ◌%◌, ◌^◌, not, cond, ◌||◌, List, Option, Some, None, eqb, leb, ltb}
 use Rattle.std.specs.declared.result.Result.{Result}
 use Rattle.std.specs.declared.result.Result.TheVariants.{Ok, Err}
 use Rattle.answers.specs.declared.Refusal.{Refusal}
@@ -28,6 +28,10 @@ struck_of c k = with_entries c (struck 3 k c.entries)
 -- the delivery step decided, of the controller with the low words w and the held edges h
 abbrev pub delivery_of : Controller → List ℕ → List ℕ → EntryDecision
 delivery_of c w h = delivery_at (first_eligible (with_held (with_low c.entries w) h)) c.entries.destination w h
+
+-- … if any pin is eligible
+abbrev pub delivery_if : Controller → List ℕ → List ℕ → Option EntryDecision
+delivery_if c w h = cond (ltb (first_eligible (with_held (with_low c.entries w) h)) 24) (Some (delivery_of c w h)) None
 
 -- the window's place that an access means: it tests 2, then 1
 unfoldable pub place_at : ℕ → ℕ → Result Place Refusal

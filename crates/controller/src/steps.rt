@@ -3,10 +3,10 @@ ghost use Rattle.std.specs.Prelude.{◌≡◌, MatchResult};
 ghost use Rattle.answers.specs.declared.Answer.TheVariants as answer;
 ghost use Rattle.controller.specs.State.{turn, refused, tested};
 ghost use Rattle.controller.specs.Steps.{rewired, wire_of, after_end, end_of, delivering_of, deliver_of};
-ghost use Rattle.controller.specs.Inner.{struck_of, delivery_of};
+ghost use Rattle.controller.specs.Inner.{struck_of, delivery_if};
 
 use crate::{Controller, Turn};
-use answers::Refusal;
+use answers::{Answer, Refusal};
 use entries::strike::Strike;
 use entries::{Entries, EntryDecision};
 
@@ -76,9 +76,9 @@ impl Controller {
         self.served(|c| c.done(Ok(c.ending(vector))))
     }
 
-    /// The delivery step decided, of the controller that has these low words and held edges.
-    pub fn delivery(self, low: &[u32; 24], held: &[u8; 24]) -> EntryDecision
-        ensures { result ≡ delivery_of self low.now held.now }
+    /// The delivery step decided, of the controller that has these low words and held edges; none if no pin is eligible.
+    pub fn delivery(self, low: &[u32; 24], held: &[u8; 24]) -> Option<EntryDecision>
+        ensures { result ≡ delivery_if self low.now held.now }
     {
         let entries = self.entries;
         let destination = entries.destination;
@@ -87,7 +87,8 @@ impl Controller {
             held: *held,
             ..entries
         };
-        EntryDecision::delivery(lent.first_eligible(), &destination, low, held)
+        let n = lent.first_eligible()?;
+        Some(EntryDecision::delivery(n, &destination, low, held))
     }
 
     pub fn delivering(self) -> Turn
@@ -96,7 +97,12 @@ impl Controller {
         let entries = self.entries;
         let low = entries.low;
         let held = entries.held;
-        let d = self.delivery(&low, &held);
+        let Some(d) = self.delivery(&low, &held) else {
+            return Turn {
+                controller: self,
+                answer: Answer::Nothing,
+            };
+        };
         // Stored in place: a struct made anew, by ..self, takes a fifth longer here.
         let mut next = self;
         next.entries = entries.renewed(d);

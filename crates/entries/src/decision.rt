@@ -25,6 +25,7 @@ fn store<T: Copy>(all: &mut [T; 24], n: usize, value: T)
 }
 
 // What the delivery step answers: none, if there is no such pin.
+// Its caller has a pin; the test stays since no public function asks for one: docs/DECISIONS.md, C4.
 #[tactic(auto, unfolding(crate::specs::Decision::delivered))]
 fn delivered(n: usize, low: u32, destination: u8) -> Answer
     ensures { result ≡ delivered n low destination }

@@ -1,7 +1,7 @@
 // The eligible pins as one number, and the lowest of them: its trailing zeros.
 ghost use Rattle.std.specs.Prelude.{◌≡◌, ◌≤◌, ◌*◌};
 ghost use mir.Val.{bool_byte};
-ghost use Rattle.pins.specs.Pins.{bits_from};
+ghost use Rattle.pins.specs.Pins.{bits_from, pin_at};
 ghost use Rattle.entries.specs.Pin.{eligible};
 ghost use Rattle.entries.specs.Table.{first_eligible};
 ghost use Rattle.entries.specs.Inner.{eligible_pins, edge_eligible, level_eligible, key_of, keys_of, eligible_by_key};
@@ -65,9 +65,6 @@ impl Low {
 }
 
 impl Entries {
-    // bit 24, after the last pin's
-    const AFTER: u32 = 0x0100_0000;
-
     fn keys(low: [u32; 24]) -> [u16; 24]
         ensures { result ≡ keys_of low }
     {
@@ -100,10 +97,14 @@ impl Entries {
         first as u32 | (last as u32) << 8
     }
 
-    /// With bit 24 put in, the count is 24 where no pin is eligible.
-    pub fn first_eligible(self) -> usize
-        ensures { result ≡ first_eligible self }
+    /// The lowest-numbered eligible pin, if any is.
+    pub fn first_eligible(self) -> Option<usize>
+        ensures { result ≡ pin_at (first_eligible self) }
     {
-        u32::trailing_zeros(self.eligible_pins() | Entries::AFTER) as usize
+        let pins = self.eligible_pins();
+        if pins == 0 {
+            return None;
+        }
+        Some(u32::trailing_zeros(pins) as usize)
     }
 }
