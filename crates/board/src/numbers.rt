@@ -6,8 +6,8 @@ use crate::{Call, CallNumbers};
 use answers::Refusal;
 use settings::Settings;
 
-// A log's kinds have the log's numbers, and a reset follows. A vector has eight bits and ticks 32: of a wider number the
-// lower bits count.
+// A log's kinds have the log's numbers, and a reset follows. A vector has eight bits and ticks 32: of a wider number
+// the lower bits count.
 impl TryFrom<CallNumbers> for Call {
     type Error = Refusal;
 

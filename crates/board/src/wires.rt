@@ -12,8 +12,8 @@ use entries::Entries;
 use settings::Settings;
 use timers::Timers;
 
-// In the place of a pin, where a timer drives none: a loop over the pins that compares with an `Option` branches for each
-// timer, and takes two and a half times the instructions where all three drive a pin.
+// In the place of a pin, where a timer drives none: a loop over the pins that compares with an `Option` branches for
+// each timer, and takes two and a half times the instructions where all three drive a pin.
 const NO_PIN: u16 = 24;
 
 /// The pin is one of the three.
@@ -24,8 +24,8 @@ fn reached(a: u16, b: u16, c: u16, pin: u16) -> bool
 }
 
 /// The wire rule at every pin. The pins that the timers drive are found once.
-// The pin is counted beside the index, at the width of a route, here and in `kept`: by `i as u16` the loop is not worked
-// out in vectors, and a register write takes twice the instructions.
+// The pin is counted beside the index, at the width of a route, here and in `kept`: by `i as u16` the loop is not
+// worked out in vectors, and a register write takes twice the instructions.
 pub fn wires(outside: [u8; 24], timers: Timers) -> [u8; 24]
     ensures { result ≡ wires_of outside timers }
 {

@@ -76,7 +76,8 @@ impl Controller {
         self.served(|c| c.done(Ok(c.ending(vector))))
     }
 
-    /// The delivery step decided, of the controller that has these low words and held edges; none if no pin is eligible.
+    /// The delivery step decided, of the controller that has these low words and held edges; none if no pin is
+    /// eligible.
     pub fn delivery(self, low: &[u32; 24], held: &[u8; 24]) -> Option<EntryDecision>
         ensures { result ≡ delivery_if self low.now held.now }
     {

@@ -28,6 +28,7 @@ impl Entries {
     }
 
     /// A test of its own for each kind of part, so that each loop is worked out in vectors of one width.
+    // `&=` and no `all`: a loop that may end early is not worked out in vectors.
     pub fn well_formed(self) -> bool
         ensures { result ≡ entries_ok self }
     {

@@ -107,8 +107,8 @@ impl Low {
         self.0 & Low::NOT_REMOTE
     }
 
-    /// The word after a write: the value's writable bits. Remote IRR is 0 if they leave the entry edge, and as it was if
-    /// they leave it level.
+    /// The word after a write: the value's writable bits. Remote IRR is 0 if they leave the entry edge, and as it was
+    /// if they leave it level.
     pub fn written(self, value: u32) -> u32
         ensures { result ≡ written self.0 value }
     {

@@ -179,7 +179,8 @@ impl Mill {
         ) || self.well_formed()
     }
 
-    /// What a call of the board does to a mill that takes it. A read changes neither the board nor a screen that fits it.
+    /// What a call of the board does to a mill that takes it. A read changes neither the board nor a screen that fits
+    /// it.
     #[tactic(auto, using(crate::proofs::Served::board_calls))]
     fn board_served(self, call: Call) -> MillTurn
         requires { takes self (millcall.Board call) ≡ true }

@@ -28,6 +28,8 @@ fn formed(b: &Board) -> bool
 }
 
 /// The numbers of refusal 5.
+// Each call tests the board for itself, in the same two lines: a closure for what is served would take the lent board,
+// of which three calls lend single arrays on.
 fn refused() -> Numbers
     ensures { result ≡ numbers_of (answer.Refused refusal.State) }
 {

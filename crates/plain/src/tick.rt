@@ -82,9 +82,9 @@ pub(crate) fn advancing(b: Board, n: u32) -> Turn
     for _i in 0..n {
         // "Enabled: the counter goes up by one modulo 2^64. Then timers 0, 1, 2 in turn, …": "a timer fires if counter
         // and comparator are equal (in 32-bit mode, modulo 2^32)."
-        // (The timers are written out, each with its count: a loop over them, with the counts in an array, was tried, is
-        // proved, and walks a tick more than ten times as slow. Their array is taken out of the board before one is read:
-        // a board with an element of it indexed is kept in memory, and the walk takes a third longer.)
+        // (The timers are written out, each with its count: a loop over them, with the counts in an array, was tried,
+        // is proved, and walks a tick more than ten times as slow. Their array is taken out of the board before one
+        // is read: a board with an element of it indexed is kept in memory, and the walk takes a third longer.)
         let counter = std::num::wrapping_add_u64(next.timers.counter, 1);
         next.timers.counter = counter;
         let timer = next.timers.timer;

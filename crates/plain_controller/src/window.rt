@@ -1,7 +1,7 @@
 // The window: "Width 4 only; alignment isn't tested. Offset 0x00 is the index (bits 7:0 kept, the rest read 0).
 // Offset 0x10 is the data window; … Any other offset: 1."
-// A controller and an access's width, offset and value go together here, as the paper names them: a struct of them would
-// be made in one line and taken apart in the next.
+// A controller and an access's width, offset and value go together here, as the paper names them: a struct of them
+// would be made in one line and taken apart in the next.
 ghost use Rattle.std.specs.Prelude.{◌≡◌, ◌<◌, ◌/◌, ◌%◌, ◌^◌};
 ghost use Rattle.answers.specs.declared.Answer.TheVariants as answer;
 ghost use Rattle.controller.specs.State.{reset_to, with_id, with_index, turn};

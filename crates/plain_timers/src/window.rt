@@ -1,6 +1,6 @@
 // The window: "Width 8, offset a multiple of 8, below 0x400", and width 4 (K1).
-// The block and an access's width, offset and value go together here, as the paper names them: a struct of them would be
-// made in one line and taken apart in the next.
+// The block and an access's width, offset and value go together here, as the paper names them: a struct of them would
+// be made in one line and taken apart in the next.
 ghost use Rattle.std.specs.Prelude.{◌≡◌, ◌<◌, if◌then◌else◌};
 ghost use Rattle.timer.specs.State.{reset_timer};
 ghost use Rattle.timer.specs.Registers.{bit};

@@ -126,8 +126,8 @@ impl Program<'_> {
         self.count_from(i) == 1 && !matches!(self.kind_at(i), Argument::Dashed | Argument::Standard)
     }
 
-    /// Whether argument i is an input and no option, argument j another or there is none, and there is none behind it. Only
-    /// one of the two can be standard input.
+    /// Whether argument i is an input and no option, argument j another or there is none, and there is none behind
+    /// it. Only one of the two can be standard input.
     pub fn two_inputs(&self, i: usize, j: usize) -> bool {
         if self.count_from(i) == 0 {
             return false;

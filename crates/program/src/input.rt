@@ -48,8 +48,8 @@ impl Program<'_> {
         }
     }
 
-    /// The input that argument i names, or standard input if there is none: what of it fits into buf. To tell an input that is
-    /// too long, buf is one byte longer than what is taken.
+    /// The input that argument i names, or standard input if there is none: what of it fits into buf. To tell an
+    /// input that is too long, buf is one byte longer than what is taken.
     pub fn read_input<'b>(&self, i: usize, buf: &'b mut [u8]) -> Result<&'b [u8], Told>
         ensures { IfOk result (λ s. length s.now ≤ length buf.old) }
     {

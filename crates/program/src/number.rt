@@ -9,6 +9,7 @@ use crate::Program;
 const ROOM: usize = 131072;
 
 /// What a digit says, decimal or hexadecimal.
+// By hand: where a letter counts from is what the edit hex_letter_counts_from_0 turns.
 #[tactic(auto, using(crate::proofs::Numbers::decimal_digit, crate::proofs::Numbers::lower_digit, crate::proofs::Numbers::upper_digit, crate::proofs::Numbers::below_digits, crate::proofs::Numbers::before_upper, crate::proofs::Numbers::before_lower, crate::proofs::Numbers::above_digits))]
 fn digit(x: u8) -> Option<u64>
     ensures { result ≡ digit x }

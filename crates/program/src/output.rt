@@ -54,8 +54,8 @@ impl Program<'_> {
         let _ = self.put(&mut self.rt.stdout(), "standard output", text);
     }
 
-    /// Writes all of a text to a file that is open, brings it to its disk and closes it: what was written may be lost before.
-    /// Closing it says nothing. Once a write has failed, no more is told of the file.
+    /// Writes all of a text to a file that is open, brings it to its disk and closes it: what was written may be lost
+    /// before. Closing it says nothing. Once a write has failed, no more is told of the file.
     fn put_and_close(&self, mut file: File, what: &str, text: &[u8]) -> Result<(), Told> {
         self.put(&mut file, what, text)?;
         file.sync_all().map_err(|error| self.failed(what, error))
@@ -101,8 +101,8 @@ impl Program<'_> {
         }
     }
 
-    /// Writes a text to the new file that argument i names. What goes wrong is told, and then a file that was made is removed.
-    /// What stands under that name already is left alone.
+    /// Writes a text to the new file that argument i names. What goes wrong is told, and then a file that was made is
+    /// removed. What stands under that name already is left alone.
     fn write_new(&self, i: usize, text: &[u8]) -> Result<(), Told> {
         let mut buf = [0; NAME_ROOM];
         match self.named(i, &mut buf) {
@@ -111,7 +111,8 @@ impl Program<'_> {
         }
     }
 
-    /// Writes the new file, if one is made, under the name that argument i is, and prints the text of a file that is whole.
+    /// Writes the new file, if one is made, under the name that argument i is, and prints the text of a file that is
+    /// whole.
     pub fn write(&self, i: usize, output: Output) -> Result<(), Told> {
         if let Some(bytes) = output.file {
             self.write_new(i, bytes)?;

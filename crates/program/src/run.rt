@@ -32,8 +32,8 @@ impl Program<'_> {
         }
     }
 
-    /// Runs `NAME [--settings FILE] [FILE]`: f is called with the settings record, if there is one, and with the log, which is
-    /// read if there is no record or it is accepted.
+    /// Runs `NAME [--settings FILE] [FILE]`: f is called with the settings record, if there is one, and with the log,
+    /// which is read if there is no record or it is accepted.
     pub fn run<A: Fn(&[u8]) -> bool, F: Fn(Option<&[u8]>, &[u8])>(&self, accepts: A, f: F)
         requires accepts_called { A.IsAlwaysCallable accepts }
         requires f_called { F.IsAlwaysCallable f }

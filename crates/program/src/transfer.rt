@@ -40,8 +40,9 @@ fn write_some<W: Write>(to: &mut W, part: &[u8]) -> Result<Step>
     after(got, part)
 }
 
-/// Reads until buf is full, the input ends (a read gives nothing) or a read fails, and answers how many bytes. A proved loop
-/// has to end, and nothing says that the interruptions do: so the turns are bounded, by a number that no run uses up.
+/// Reads until buf is full, the input ends (a read gives nothing) or a read fails, and answers how many bytes. A
+/// proved loop has to end, and nothing says that the interruptions do: so the turns are bounded, by a number that no
+/// run uses up.
 pub(crate) fn read_all<R: Read>(from: &mut R, buf: &mut [u8]) -> Result<usize>
     ensures { IfOk result (λ n. n ≤ length buf.new) }
 {
@@ -59,7 +60,8 @@ pub(crate) fn read_all<R: Read>(from: &mut R, buf: &mut [u8]) -> Result<usize>
     Ok(done)
 }
 
-/// Writes until all is written, nothing more is taken (a write takes nothing) or a write fails, and answers how many bytes.
+/// Writes until all is written, nothing more is taken (a write takes nothing) or a write fails, and answers how many
+/// bytes.
 pub(crate) fn write_all<W: Write>(to: &mut W, text: &[u8]) -> Result<usize>
     ensures { IfOk result (λ n. n ≤ length text.now) }
 {

@@ -2,9 +2,9 @@
 //
 //     replay [--settings FILE] [FILE]
 //
-// The log is the file, or standard input. The board is reset with the settings of a record, or with document 01's. A record
-// that is refused is said, and no log is read. At most 65,536 bytes are taken; of a longer log the program says only
-// `too long`.
+// The log is the file, or standard input. The board is reset with the settings of a record, or with document 01's. A
+// record that is refused is said, and no log is read. At most 65,536 bytes are taken; of a longer log the program
+// says only `too long`.
 #![tactic(auto)]
 
 ghost use Rattle.std.specs.Prelude.{◌≡◌, true};
@@ -17,9 +17,9 @@ use board::Board;
 use program::Program;
 use settings::Settings;
 
-// 64 bytes for each of the 21,845 records that a log of 65,536 bytes can hold, and for the last line: the bound that is proved.
-// Counted by hand, no log prints more than 928,244 bytes. A delivery's line is the longest for its bytes of log, 38 bytes and the
-// digits of its number for 3; 21,845 of them are 928,225, and `stopped 8 at 65535` is 19.
+// 64 bytes for each of the 21,845 records that a log of 65,536 bytes can hold, and for the last line: the bound that
+// is proved. Counted by hand, no log prints more than 928,244 bytes. A delivery's line is the longest for its bytes
+// of log, 38 bytes and the digits of its number for 3; 21,845 of them are 928,225, and `stopped 8 at 65535` is 19.
 // The text is put into an array that is lent: a program has no heap (docs/DECISIONS.md, reading 91).
 const ROOM: usize = 1398144;
 

@@ -3,9 +3,9 @@
 //
 //     screen [--settings FILE] PIN [FILE]
 //
-// The log is the file, or standard input. The mill is reset with the settings of a record, or with document 01's. A record
-// that is refused, or a PIN above 23, is said, and no log is read. At most 65,536 bytes are taken; of a longer log the
-// program says only `too long`.
+// The log is the file, or standard input. The mill is reset with the settings of a record, or with document 01's. A
+// record that is refused, or a PIN above 23, is said, and no log is read. At most 65,536 bytes are taken; of a longer
+// log the program says only `too long`.
 #![tactic(auto)]
 
 ghost use Rattle.std.specs.Prelude.{◌≡◌, true};

@@ -28,8 +28,8 @@ fn settings_at(bytes: &[u8; LENGTH]) -> Settings
 }
 
 impl Settings {
-    /// The settings of a record, or why it is refused: in order, by 8 for its length, 6 for the mark, 9 for the form, 10
-    /// for a number out of range.
+    /// The settings of a record, or why it is refused: in order, by 8 for its length, 6 for the mark, 9 for the form,
+    /// 10 for a number out of range.
     #[tactic(auto, unfolding(crate::specs::Record::read_of, crate::specs::Record::marked))]
     pub fn accepted(bytes: &[u8]) -> Result<Settings, Refusal>
         ensures { reading_of result ≡ read_of bytes.now }

@@ -15,8 +15,8 @@ ghost use Rattle.timer.specs.Closed.{times};
 
 use settings::Settings;
 
-// Flags are numbers, 0 or 1, and no bools: any byte pattern of lent memory is a timer, and one with another value is not well
-// formed. No byte of it is padding.
+// Flags are numbers, 0 or 1, and no bools: any byte pattern of lent memory is a timer, and one with another value is
+// not well formed. No byte of it is padding.
 #[repr(C)]
 #[derive(Clone, Copy, Default, PartialEq, Eq)]
 pub struct Timer {
@@ -71,8 +71,8 @@ pub fn placed(f: u8, k: u32) -> u64
     u64::from(f == 1).checked_shl(k).unwrap_or(0)
 }
 
-// How often a timer fires in n ticks whose first firing is due in d, and that then goes on by s. 0 is no tick and no step, and
-// stands for none in specs/Closed.antt#times too.
+// How often a timer fires in n ticks whose first firing is due in d, and that then goes on by s. 0 is no tick and no
+// step, and stands for none in specs/Closed.antt#times too.
 fn firings(d: u64, s: u64, n: u32) -> u64
     ensures { result ≡ times d s n }
 {
@@ -158,8 +158,8 @@ impl Timer {
             | ((self.comparator < Timer::NARROW_END) & (self.period < Timer::NARROW_END))
     }
 
-    /// With this mask. Every call tests this: a bit that is 1 only beside another is compared with it, and a mask that has
-    /// the route isn't 0.
+    /// With this mask. Every call tests this: a bit that is 1 only beside another is compared with it, and a mask
+    /// that has the route isn't 0.
     pub fn well_formed(self, mask: u32) -> bool
         ensures { result ≡ timer_formed mask self }
     {

@@ -131,8 +131,8 @@ impl Timers {
     pub fn well_formed(self) -> bool
         ensures { result ≡ well_formed self }
     {
-        // Written out for each timer: as `all` over the timers zipped with their masks, measured: this test is a sixth slower, and
-        // an advance takes nearly half as long again.
+        // Written out for each timer: as `all` over the timers zipped with their masks, measured: this test is a
+        // sixth slower, and an advance takes nearly half as long again.
         let [t0, t1, t2] = self.timer;
         let [k0, k1, k2] = self.masks;
         let timers = t0.well_formed(k0) & (t1.well_formed(k1) & t2.well_formed(k2));
@@ -143,8 +143,8 @@ impl Timers {
     fn at(self, m: usize) -> Timer
         ensures { result ≡ at self m }
     {
-        // By the index: with `get(m).copied().unwrap_or(..)` a read is a sixth slower. Out of the struct first, since one with
-        // an element of it indexed is copied whole.
+        // By the index: with `get(m).copied().unwrap_or(..)` a read is a sixth slower. Out of the struct first, since
+        // one with an element of it indexed is copied whole.
         if Timers::COUNT <= m {
             return Timer::blank();
         }
@@ -166,8 +166,8 @@ impl Timers {
 }
 
 impl Timers {
-    // Each timer by what f makes of its number, its mask and itself. None is sought by its number, so that no timer has to
-    // lie in memory.
+    // Each timer by what f makes of its number, its mask and itself. None is sought by its number, so that no timer
+    // has to lie in memory.
     fn each<F: Fn(u32, u32, Timer) -> Timer>(self, f: F) -> Timers
         requires { F.IsAlwaysCallable f }
         ensures rest { result ≡ with_timers self (at result) }

@@ -81,8 +81,8 @@ impl Timers {
         next
     }
 
-    // A write to an offset of the timers' registers. Each timer is asked whether it is the one. As a closure for `each` it is
-    // no longer a part of the write, which then takes half as long again.
+    // A write to an offset of the timers' registers. Each timer is asked whether it is the one. As a closure for
+    // `each` it is no longer a part of the write, which then takes half as long again.
     fn timer_written(self, offset: u64, value: u64) -> Timers
         requires { 0x100 ≤ offset }
         ensures { result ≡ timer_written self offset value }
@@ -184,7 +184,8 @@ impl Timers {
     pub fn writing(self, width: u64, offset: u64, value: u64) -> Turn
         ensures { result ≡ writing_of self width offset value }
     {
-        // Ifs that return: as one Result of `accessed`, a write through the monitor's entry takes a fiftieth more instructions.
+        // Ifs that return: as one Result of `accessed`, a write through the monitor's entry takes a fiftieth more
+        // instructions.
         if !Timers::aligned(width, offset) {
             return self.refused(Refusal::Width);
         }
@@ -200,7 +201,8 @@ impl Timers {
         }
     }
 
-    // ---- calls on any state: 5 is tested first. An `if` each: as a Result the test would need a `match` in its place.
+    // ---- calls on any state: 5 is tested first. An `if` each: as a Result the test would need a `match` in its place, and
+    // a closure, as in the controller's `served`, would serve two of the three: an advance builds on what was tested.
 
     /// A read.
     #[tactic(auto, unfolding(crate::specs::Call::read_of))]

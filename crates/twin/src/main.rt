@@ -4,8 +4,8 @@
 //     twin [--settings FILE] [FILE]
 //
 // The log is the file, or standard input. The boards are reset with the settings of a record, or with document 01's. A
-// record that is refused is said, and no log is read. At most 65,536 bytes are taken; of a longer log the program says only
-// `too long`.
+// record that is refused is said, and no log is read. At most 65,536 bytes are taken; of a longer log the program
+// says only `too long`.
 #![tactic(auto)]
 
 mod play;
@@ -37,9 +37,9 @@ pub struct Differ {
     pub written: usize,
 }
 
-// 64 bytes for each of the 21,845 records that a log of 65,536 bytes can hold, and for three lines more: the last one, or
-// the three that tell a difference.
-// The text is put into an array that is lent: a program has no heap (docs/DECISIONS.md, reading 91).
+// 64 bytes for each of the 21,845 records that a log of 65,536 bytes can hold, and for three lines more: the last
+// one, or the three that tell a difference. The text is put into an array that is lent: a program has no heap
+// (docs/DECISIONS.md, reading 91).
 const ROOM: usize = 1398272;
 
 const USAGE: &str =
@@ -71,8 +71,9 @@ fn played<'b>(
     }
 }
 
-// This and the next three are alike in `replay`, and not generic: what a log prints would be a closure, whose contract says
-// as much as each of them does. `accepts` would make `program` stand on `event_log`, whose definition it keeps.
+// This and the next three are alike in `replay`, and not generic: what a log prints would be a closure, whose
+// contract says as much as each of them does. `accepts` would make `program` stand on `event_log`, whose definition
+// it keeps.
 /// What it prints on boards that are reset with settings.
 fn output_from<'b>(
     rt: &HostRuntime,
