@@ -1,8 +1,9 @@
 -- A firing strikes its one pin.
-use Prim.Native.Nat.{ℕ, ◌<◌}
+use Prim.Native.Nat.{ℕ, ◌%◌, ◌<◌}
 use mathlib.Core.Path.{◌≡◌, refl, sym, ap, ◌∙◌}
 use mathlib.Core.Bool.{Bool, true, false, ◌&&◌, ◌||◌}
 use mathlib.Core.List.{List}
+use native.Mathlib.Omega.{arith}
 use native.Mathlib.Decide.{ℕ_discrete}
 use lib.Dec.{eqb}
 use lib.ListN.{get_or, set, length-set}
@@ -10,7 +11,7 @@ use lib.Seq.{ext_get_or, get_or-set_same, get_or-set_other}
 use mir.Val.{bool_byte}
 use borrow.Author.Tests.{eq-eqb, ne_eqb}
 use Rattle.entries.specs.declared.Entries.{Entries}
-use Rattle.entries.specs.Strike.{struck_by}
+use Rattle.entries.specs.Strike.{pulse, rise, struck_by}
 use Rattle.entries.proofs.Pulse.{wired-same}
 use Rattle.entries.proofs.Strikes.{strike-none, strike-pulse, strike-rise}
 use Rattle.controller.specs.declared.Controller.{Controller}
@@ -82,13 +83,16 @@ module _ (b : Board) (z : Formed b) (m : ℕ) (l : m < 3) (on : is_enabled b.tim
   unfolding strike_at
   fire-strikes =
       by_cases b z m l (λ x. x ≡ with_entries c (struck_by e (strike_at s m)))
-      (λ h. ap (with_entries c) (strike-pulse e z.sized p pin ∙ rw h))
+      (λ h. ap (with_entries c) (strike-pulse e z.sized p pin ∙ ap (λ (q : ℕ). struck_by e (pulse q)) (sym small) ∙ rw h))
       (λ h. go (raises_of s m) refl h)
     where
+      small : p % 256 ≡ p
+      small = omega (arith, pin)
+
       go : (x : Bool) → raises_of s m ≡ x → pulses_of s m ≡ false → rewired c (wires_of o (fired_of s m)) ≡ with_entries c (struck_by e (strike_at s m))
       go true r h =
           ap (λ (v : List ℕ). rewired c v) (up r)
-          ∙ ap (with_entries c) (strike-rise e z.sized p pin ∙ rw (h, r))
+          ∙ ap (with_entries c) (strike-rise e z.sized p pin ∙ ap (λ (q : ℕ). struck_by e (rise q)) (sym small) ∙ rw (h, r))
       go false r h =
           ap (λ (v : List ℕ). rewired c v) (flat r)
           ∙ ap (with_entries c) (wired-same e z.sized ∙ sym (strike-none e) ∙ rw (h, r))

@@ -1,6 +1,6 @@
 -- The calls as the code makes them, at the pins that can change: only inner functions cite these.
 -- `proofs/At.antt` has that on a well-formed board each is the call of `Step.antt`.
-use Rattle.std.specs.Prelude.{ℕ, cond, ◌||◌, List, ◌∷◌, [], Option, None, eqb, leb, ltb, get_or, set}
+use Rattle.std.specs.Prelude.{ℕ, ◌%◌, cond, ◌||◌, List, ◌∷◌, [], Option, None, eqb, leb, ltb, get_or, set}
 use mir.Val.{bool_byte}
 use Rattle.answers.specs.declared.Answer.TheVariants as answer
 use Rattle.answers.specs.declared.Refusal.TheVariants as refusal
@@ -47,9 +47,9 @@ low_write_at b n v = renewed_by b (write_at n v b.controller.entries.low b.contr
 
 -- ---- an advance: each timer that fires strikes its pin, at its first firing
 
--- timer m's strike: a pulse of its pin's wire, or a rise of it, or neither
+-- timer m's strike, as the controller has it: a pulse of its pin's wire, or a rise of it, or neither
 unfoldable pub strike_at : Timers → ℕ → Option Strike
-strike_at s m = cond (pulses_of s m) (pulse (route_of s m)) (cond (raises_of s m) (rise (route_of s m)) None)
+strike_at s m = cond (pulses_of s m) (pulse (route_of s m % 256)) (cond (raises_of s m) (rise (route_of s m % 256)) None)
 
 -- none, where it first fires at tick 0: never
 unfoldable pub strike_of : Timers → ℕ → ℕ → Option Strike

@@ -15,12 +15,14 @@ use timers::Timers;
 fn strike_of(s: Timers, m: usize, first: u32) -> Option<Strike>
     ensures { result ≡ strike_of s m first }
 {
+    // Modulo 256 is a well-formed route itself, a pin below 24; of any other specs/At.antt#strike_at says it so too.
+    let pin = s.route(m) % 256;
     if first == 0 {
         None
     } else if s.pulses(m) {
-        Some(Strike::Pulse(s.route(m)))
+        Some(Strike::Pulse(pin))
     } else if s.raises(m) {
-        Some(Strike::Rise(s.route(m)))
+        Some(Strike::Rise(pin))
     } else {
         None
     }
