@@ -3,18 +3,18 @@ use mathlib.Core.Path.{◌≡◌, refl, sym, ap, ap₂, ◌∙◌}
 use mathlib.Core.Bool.{Bool, true, false, not, cond, ◌&&◌, ◌||◌}
 use mathlib.Core.List.{List}
 use Prim.Native.Nat.{ℕ, zero, suc, ◌+◌, ◌*◌, ◌/◌, ◌%◌, ◌^◌, ◌<◌, ◌≤◌, min}
-use native.Mathlib.Nat.{mod-lt, mod-eq_of_lt, zero-add, add-zero}
+use native.Mathlib.Nat.{mod-lt, mod-eq_of_lt, zero-add, add-zero, add_comm}
 use native.Mathlib.Omega.{arith}
 use native.Mathlib.Decide.{ℕ_discrete}
 use lib.Dec.{eqb, ltb, lit<}
 use borrow.Author.Tests.{eq-eqb, ne_eqb, lt-ltb, le-ltb}
-use lib.Bits.{bit_and, bit_or, bit_xor, and_mask, and_high, and_le_l, and_le_r, xor_lt, xor_add_and, xor_block}
+use lib.Bits.{bit_and, bit_or, bit_xor, and_mask, and_high, and_le_l, and_le_r, xor_lt, xor_add_and, xor_block, or_shifted_r}
 use lib.Count.{count_trailing_zeros, under}
 use mir.Val.{bool_byte}
 use Rattle.pins.specs.Pins.{bits_from, bits_of, first_from}
 use Rattle.pins.proofs.Bit.{and_split}
 use Rattle.pins.proofs.Fill.{get_or-tab}
-use Rattle.pins.proofs.Digits.{bits-lt, bits-over, bits-same}
+use Rattle.pins.proofs.Digits.{bits-lt, bits-over, bits-same, zeros-first}
 use Rattle.entries.specs.declared.Entries.{Entries}
 use Rattle.entries.specs.Word.{mode_of, remote_of, level_of, masked_of}
 use Rattle.entries.specs.Pin.{asserted, eligible}
@@ -255,10 +255,19 @@ module _ (e : Entries) where
       ap (bit_or (bits_from (eligible_at e) 0 16)) (mod-eq_of_lt {n = bits_from (eligible_at e) 8 16 * 2 ^ 8} {m = 2 ^ 32} (omega (arith, bits-lt (eligible_at e) 8 16)))
       ∙ bits-over (eligible_at e) 0 8 8 8
 
-  -- as the code counts it, where any pin is eligible
-  pub lowest-zeros : (eligible_pins e ≡ 0 → ⊥) → (count_trailing_zeros 32 (eligible_pins e) ≡ first_eligible e) × (first_eligible e < 24)
+  -- with bit 24 put in
+  pub lowest-zeros : count_trailing_zeros 32 (bit_or (eligible_pins e) (2 ^ 24)) ≡ first_eligible e
   unfolding eligible_pins first_eligible
-  lowest-zeros f =
+  lowest-zeros =
+      let b = bits_of (eligible_at e) in
+      ap (count_trailing_zeros 32) (or_shifted_r 1 24 b (bits-lt (eligible_at e) 0 24) ∙ add_comm (2 ^ 24) b)
+      ∙ sym (zero-add (count_trailing_zeros 32 (b + 2 ^ 24)))
+      ∙ zeros-first (eligible_at e) 0 24 32 (lit< tt)
+
+  -- as the code counts it, where any pin is eligible
+  pub lowest-counted : (eligible_pins e ≡ 0 → ⊥) → (count_trailing_zeros 32 (eligible_pins e) ≡ first_eligible e) × (first_eligible e < 24)
+  unfolding eligible_pins first_eligible
+  lowest-counted f =
       let x = zeros-found (eligible_at e) 0 24 32 (omega arith) f in
       (sym (zero-add (count_trailing_zeros 32 (bits_of (eligible_at e)))) ∙ x.0, omega (arith, x.1))
 
