@@ -5,14 +5,14 @@ use Rattle.nataqvoju_plain.proofs.kinds.call.Goals as goal
 
 pub returns-in-Ok : goal.returns-in-Ok
 returns-in-Ok c =
-    c.step.ensures ∙ ap (answered c.args.b) (sym c.in-Ok.is ∙ c.try_from.ensures) ∙ named-answers c.args.b c.args.numbers
+    c.step.ensures ∙ ap (answered c.args.b) (sym c.in-Ok.is ∙ c.named.ensures) ∙ named-answers c.args.b c.args.numbers
 
 pub returns-then-well_formed : goal.returns-then-well_formed
 returns-then-well_formed c =
     let is : c.refused.result ≡ answered c.args.b (Err c.in-Err.refusal) = rw (sym c.well_formed-in-Err.ensures ∙ c.if-well_formed.true) c.refused.ensures in
-    is ∙ ap (answered c.args.b) (sym c.in-Err.is ∙ c.try_from.ensures) ∙ named-answers c.args.b c.args.numbers
+    is ∙ ap (answered c.args.b) (sym c.in-Err.is ∙ c.named.ensures) ∙ named-answers c.args.b c.args.numbers
 
 pub returns-else-well_formed : goal.returns-else-well_formed
 returns-else-well_formed c =
     let is : c.refused-else-well_formed.result ≡ answered c.args.b (Err c.in-Err.refusal) = rw (sym c.well_formed-in-Err.ensures ∙ c.if-well_formed.false) c.refused-else-well_formed.ensures in
-    is ∙ ap (answered c.args.b) (sym c.in-Err.is ∙ c.try_from.ensures) ∙ named-answers c.args.b c.args.numbers
+    is ∙ ap (answered c.args.b) (sym c.in-Err.is ∙ c.named.ensures) ∙ named-answers c.args.b c.args.numbers
