@@ -1,6 +1,6 @@
 // A timer's route mask (document 02, K6): pin n is in it where bit n is 1.
-ghost use Rattle.std.specs.Prelude.{◌≡◌};
-ghost use Rattle.std.specs.Option.{unwrap_or};
+ghost use Rattle.std.specs.Prelude.{◌≡◌, ◌<◌};
+ghost use Rattle.std.specs.Option.{IfSome, unwrap_or};
 ghost use Rattle.timer.specs.Mask.{in_mask};
 ghost use Rattle.timer.specs.Mask.{lowest as lowest_of};
 
@@ -17,7 +17,8 @@ pub(crate) fn has(mask: u32, pin: u16) -> bool
 
 // "… its mask's lowest pin, …": each is tried in turn.
 pub(crate) fn lowest(mask: u32) -> Option<u16>
-    ensures { unwrap_or result 24 ≡ lowest_of mask }
+    ensures lowest { unwrap_or result 24 ≡ lowest_of mask }
+    ensures on_a_pin { IfSome result (λ n. n < 24) }
 {
     for pin in 0..24 {
         if has(mask, pin) {

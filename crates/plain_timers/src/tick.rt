@@ -1,6 +1,5 @@
 // "One tick", what one timer does in it.
-ghost use Rattle.std.specs.Prelude.{◌≡◌, ◌+◌, ◌%◌, ◌^◌, ◌&&◌, if◌then◌else◌};
-ghost use Rattle.std.specs.Option.{unwrap_or};
+ghost use Rattle.std.specs.Prelude.{◌≡◌, ◌+◌, ◌%◌, ◌^◌, ◌&&◌, if◌then◌else◌, Some, None};
 ghost use Rattle.timer.specs.State.{flag, width, narrowed};
 ghost use Rattle.timer.specs.Inner.{holding};
 ghost use Rattle.timer.specs.Tick.{meets as meets_at, firing, pulsing};
@@ -64,7 +63,7 @@ pub fn pulses(t: Timer) -> bool
 // the block enabled, …".
 #[tactic(auto, unfolding(timer::specs::Inner::holding))]
 pub fn driven(s: Timers, t: Timer) -> Option<u16>
-    ensures { unwrap_or result 24 ≡ (if is_enabled s && holding t then t.route else 24) }
+    ensures { result ≡ (if is_enabled s && holding t then Some t.route else None) }
 {
     if s.enabled == 1 && t.level_type == 1 && t.interrupt == 1 && t.status == 1 {
         Some(t.route)

@@ -1,10 +1,10 @@
-use Rattle.std.proofs.Common.{ℕ, ◌||◌, eqb, List, get_or, ap, ◌∙◌, rules}
+use Rattle.std.proofs.Common.{ℕ, ◌||◌, eqb, List, get_or, refl, ap, ◌∙◌, rules}
 use Rattle.std.specs.Option.{unwrap_or}
 use mir.Val.{bool_byte}
 use Rattle.pins.proofs.Store.{pins-cong}
-use Rattle.timers.specs.Inner.{driven_of}
+use Rattle.timers.specs.Inner.{driven_pin}
 use Rattle.board.specs.Wires.{high_at, wires_of}
-use Rattle.board.proofs.Rule.{high-by}
+use Rattle.board.proofs.Rule.{driven-by, high-by}
 use Rattle.entries.proofs.Each.{tabled}
 use Rattle.plain.proofs.wires.wires.Goals as goal
 
@@ -13,10 +13,10 @@ abbrev rule : List ℕ → ℕ → ℕ → ℕ → ℕ → ℕ
 rule o a b c i = bool_byte (eqb (get_or o i 0) 1 || (eqb a i || (eqb b i || eqb c i)))
 
 pub returns : goal.returns
-unfolding wires_of driven_of
+unfolding wires_of driven_pin
 returns c =
     let s = c.args in
     let f = rule s.outside (unwrap_or c.driven-a.result 24) (unwrap_or c.driven-b.result 24) (unwrap_or c.driven-c.result 24) in
     tabled f (λ i y q k. (search rules, search rules)) c.from_fn.ensures.items
     ∙ pins-cong f (λ i. bool_byte (high_at s.outside s.timers i)) 0
-    (λ i h. ap bool_byte (high-by s.outside s.timers _ _ _ c.driven-a.ensures c.driven-b.ensures c.driven-c.ensures i h))
+    (λ i h. ap bool_byte (high-by s.outside s.timers _ _ _ (driven-by s.timers 0 _ _ refl c.driven-a.ensures) (driven-by s.timers 1 _ _ refl c.driven-b.ensures) (driven-by s.timers 2 _ _ refl c.driven-c.ensures) i h))
