@@ -85,7 +85,7 @@ pub(crate) fn advancing(b: Board, n: u32) -> Turn
         // (The timers are written out, each with its count: a loop over them, with the counts in an array, was tried,
         // is proved, and walks a tick more than ten times as slow. Their array is taken out of the board before one
         // is read: a board with an element of it indexed is kept in memory, and the walk takes a third longer.)
-        let counter = std::num::wrapping_add_u64(next.timers.counter, 1);
+        let counter = next.timers.counter.wrapping_add(1);
         next.timers.counter = counter;
         let timer = next.timers.timer;
         if plain_timers::meets(next.timers.counter, timer[0]) {

@@ -27,7 +27,7 @@ fn comparator_after(t: Timer) -> u64
     if t.periodic != 1 {
         return t.comparator;
     }
-    let sum = std::num::wrapping_add_u64(t.comparator, t.period);
+    let sum = t.comparator.wrapping_add(t.period);
     if t.narrow == 1 { sum % 4294967296 } else { sum }
 }
 

@@ -201,8 +201,9 @@ impl Timers {
         }
     }
 
-    // ---- calls on any state: 5 is tested first. An `if` each: as a Result the test would need a `match` in its place, and
-    // a closure, as in the controller's `served`, would serve two of the three: an advance builds on what was tested.
+    // ---- calls on any state: 5 is tested first. An `if` each: as a Result the test would need a `match` in its
+    // place, and a closure, as in the controller's `served`, would serve two of the three: an advance builds on what
+    // was tested.
 
     /// A read.
     #[tactic(auto, unfolding(crate::specs::Call::read_of))]

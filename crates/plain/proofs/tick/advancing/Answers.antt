@@ -1,9 +1,7 @@
 use Rattle.std.proofs.Common.{◌≡◌, ℕ, sym, refl, ap, ◌∙◌, arith, eq-eqb, ne_eqb}
 use Rattle.answers.specs.declared.Answer.TheVariants as answer
-use Rattle.timers.specs.State.{with_counter}
 use Rattle.timers.specs.Tick.{counted_of, matches_of}
-use Rattle.board.specs.declared.Board.{Board}
-use Rattle.board.specs.State.{board, turn}
+use Rattle.board.specs.State.{turn}
 use Rattle.board.specs.Tick.{ticks, firings}
 use Rattle.board.specs.Step.{advancing_of}
 use Rattle.plain.proofs.Walk.{ticks-off, firings-off, firings-le, Turns, fires, rests, counted, ticked, fired0, fired1, fired2}
@@ -37,20 +35,17 @@ overflow_add-fired2 c =
 pub loop-i-preserved : goal.loop-i-preserved
 unfolding counted_of matches_of
 loop-i-preserved c =
-    let on-counted : Board = let x = c.loop-i.next in board x.controller (with_counter x.timers c.wrapping_add_u64-counter.result) x.outside in
-    let counts : on-counted ≡ counted (ticks c.loop-i._i c.args.b) = ap (λ (r : ℕ). board c.loop-i.next.controller (with_counter c.loop-i.next.timers r) c.loop-i.next.outside) c.wrapping_add_u64-counter.ensures.value
-    ∙ ap counted c.loop-i.invariant.0 in
-    let turn0 : Turns 0 (on-counted) c.loop-i.fired0 c.if-meets.next c.if-meets.fired0 = (elim c.if-meets.branch [ then-meets w ↦ fires 0 _ _ _ _ c.meets.result c.meets.ensures w.if-meets.true (w.next-is ∙ w.fire-next.ensures) w.fired0-is | else-meets w ↦ rests 0 _ _ _ _ c.meets.result c.meets.ensures w.if-meets.false w.next-is w.fired0-is ]) in
+    let counts : counted c.loop-i.next ≡ counted (ticks c.loop-i._i c.args.b) = ap counted c.loop-i.invariant.0 in
+    let turn0 : Turns 0 (counted c.loop-i.next) c.loop-i.fired0 c.if-meets.next c.if-meets.fired0 = (elim c.if-meets.branch [ then-meets w ↦ fires 0 _ _ _ _ c.meets.result c.meets.ensures w.if-meets.true (w.next-is ∙ w.fire-next.ensures) w.fired0-is | else-meets w ↦ rests 0 _ _ _ _ c.meets.result c.meets.ensures w.if-meets.false w.next-is w.fired0-is ]) in
     let turn1 : Turns 1 c.if-meets.next c.loop-i.fired1 c.if-meets-2.next c.if-meets-2.fired1 = (elim c.if-meets-2.branch [ then-meets-2 w ↦ fires 1 _ _ _ _ c.meets-in-loop-i.result c.meets-in-loop-i.ensures w.if-meets-2.true (w.next-is ∙ w.fire-next-then-meets-2.ensures) w.fired1-is | else-meets-2 w ↦ rests 1 _ _ _ _ c.meets-in-loop-i.result c.meets-in-loop-i.ensures w.if-meets-2.false w.next-is w.fired1-is ]) in
     let turn2 : Turns 2 c.if-meets-2.next c.loop-i.fired2 c.if-meets-3.next c.if-meets-3.fired2 = (elim c.if-meets-3.branch [ then-meets-3 w ↦ fires 2 _ _ _ _ c.meets-in-loop-i-2.result c.meets-in-loop-i-2.ensures w.if-meets-3.true (w.next-is ∙ w.fire-next-then-meets-3.ensures) w.fired2-is | else-meets-3 w ↦ rests 2 _ _ _ _ c.meets-in-loop-i-2.result c.meets-in-loop-i-2.ensures w.if-meets-3.false w.next-is w.fired2-is ]) in
     let b = c.args.b in
     let on = eq-eqb _ 1 c.if-b-ne1.false in
-    let e = counts in
     let inv = c.loop-i.invariant in (
-      ticked b c.loop-i._i on _ _ _ _ c.loop-i.fired0 c.loop-i.fired1 c.loop-i.fired2 _ _ _ e (turn0) (turn1) (turn2),
-      fired0 b c.loop-i._i on _ _ _ _ c.loop-i.fired0 c.loop-i.fired1 c.loop-i.fired2 _ _ _ e (turn0) (turn1) (turn2) inv.1,
-      fired1 b c.loop-i._i on _ _ _ _ c.loop-i.fired0 c.loop-i.fired1 c.loop-i.fired2 _ _ _ e (turn0) (turn1) (turn2) inv.2,
-      fired2 b c.loop-i._i on _ _ _ _ c.loop-i.fired0 c.loop-i.fired1 c.loop-i.fired2 _ _ _ e (turn0) (turn1) (turn2) inv.3,
+      ticked b c.loop-i._i on _ _ _ _ c.loop-i.fired0 c.loop-i.fired1 c.loop-i.fired2 _ _ _ counts turn0 turn1 turn2,
+      fired0 b c.loop-i._i on _ _ _ _ c.loop-i.fired0 c.loop-i.fired1 c.loop-i.fired2 _ _ _ counts turn0 turn1 turn2 inv.1,
+      fired1 b c.loop-i._i on _ _ _ _ c.loop-i.fired0 c.loop-i.fired1 c.loop-i.fired2 _ _ _ counts turn0 turn1 turn2 inv.2,
+      fired2 b c.loop-i._i on _ _ _ _ c.loop-i.fired0 c.loop-i.fired1 c.loop-i.fired2 _ _ _ counts turn0 turn1 turn2 inv.3,
     )
 
 pub returns : goal.returns
