@@ -25,9 +25,7 @@ fn is_pin(driven: Option<u16>, pin: u16) -> bool
 pub(crate) fn wires(outside: [u8; 24], timers: Timers) -> [u8; 24]
     ensures { result ≡ wires_of outside timers }
 {
-    let a = plain_timers::driven(timers, timers.timer[0]);
-    let b = plain_timers::driven(timers, timers.timer[1]);
-    let c = plain_timers::driven(timers, timers.timer[2]);
+    let [a, b, c] = timers.timer.map(|t| plain_timers::driven(timers, t));
     array::from_fn(|pin| {
         let at = pin as u16;
         let by_timer = is_pin(a, at) | (is_pin(b, at) | is_pin(c, at));

@@ -62,7 +62,8 @@ pub fn well_formed(s: Timers) -> bool
 {
     s.enabled <= 1
         && settings_fit(s.vendor, s.tick_period)
-        && timer_ok(s.masks[0], s.timer[0])
-        && timer_ok(s.masks[1], s.timer[1])
-        && timer_ok(s.masks[2], s.timer[2])
+        && s.masks
+            .iter()
+            .zip(&s.timer)
+            .all(|(mask, t)| timer_ok(*mask, *t))
 }

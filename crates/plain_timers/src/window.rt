@@ -44,17 +44,14 @@ fn reset_timer(mask: u32) -> Timer
 pub fn reset(settings: Settings) -> Timers
     ensures { result ≡ reset_to settings }
 {
+    let masks = [settings.mask0, settings.mask1, settings.mask2];
     Timers {
         counter: 0,
         tick_period: settings.period,
         vendor: settings.vendor as u32,
-        masks: [settings.mask0, settings.mask1, settings.mask2],
+        masks,
         enabled: 0,
-        timer: [
-            reset_timer(settings.mask0),
-            reset_timer(settings.mask1),
-            reset_timer(settings.mask2),
-        ],
+        timer: masks.map(reset_timer),
     }
 }
 
@@ -70,6 +67,7 @@ pub(crate) fn with_timer(s: Timers, m: usize, t: Timer) -> Timers
 }
 
 // "0x020: bit n is timer n's status. … Other bits read 0."
+// Written out for each timer, as the paper gives each its bit: a fold over them, tried in crate timers, is not proved.
 #[tactic(auto, unfolding(timers::specs::Registers::status_of))]
 fn status(s: Timers) -> u64
     ensures { result ≡ status_of s }
