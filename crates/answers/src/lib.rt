@@ -5,7 +5,7 @@ ghost use Rattle.std.specs.Prelude.{◌≡◌};
 ghost use Rattle.answers.specs.Numbers.{number_of, bare, numbers_of, is_done};
 
 // Why a call is refused: a variant for each reason that the table names.
-#[derive(Clone, Copy)]
+#[derive(Clone, Copy, PartialEq, Eq)]
 pub enum Refusal {
     // 1: the window doesn't exist
     Window,
@@ -39,7 +39,7 @@ pub enum Refusal {
     NotEdge,
 }
 
-#[derive(Clone, Copy)]
+#[derive(Clone, Copy, PartialEq, Eq)]
 pub enum Answer {
     Done,
     // what a done read gives
@@ -72,22 +72,21 @@ pub struct Numbers {
     pub logical: u8,
 }
 
-impl Refusal {
-    pub fn number(self) -> u32
-        ensures { result ≡ number_of self }
-    {
-        match self {
-            Refusal::Window => 1,
-            Refusal::Offset => 1,
+// The table's number of the reason: three numbers stand for two reasons each.
+impl From<Refusal> for u32 {
+    ghost from_gives = { λ refusal number. number ≡ number_of refusal };
+
+    #[tactic(auto, unfolding(crate::specs::Numbers::number_of))]
+    fn from(refusal: Refusal) -> u32 {
+        match refusal {
+            Refusal::Window | Refusal::Offset => 1,
             Refusal::Width => 2,
             Refusal::Pin => 3,
-            Refusal::Level => 4,
-            Refusal::Value => 4,
+            Refusal::Level | Refusal::Value => 4,
             Refusal::State => 5,
             Refusal::Mark => 6,
             Refusal::Kind => 7,
-            Refusal::Short => 8,
-            Refusal::Length => 8,
+            Refusal::Short | Refusal::Length => 8,
             Refusal::Form => 9,
             Refusal::Range => 10,
             Refusal::NoRoom => 12,
@@ -119,47 +118,39 @@ impl Answer {
     pub fn is_done(self) -> bool
         ensures { result ≡ is_done self }
     {
-        match self {
-            Answer::Refused(refusal) => false,
-            _ => true,
-        }
+        !matches!(self, Answer::Refused(_))
     }
+}
 
-    pub fn numbers(self) -> Numbers
-        ensures { result ≡ numbers_of self }
-    {
-        match self {
-            Answer::Done => Numbers::bare(0),
-            Answer::Value(value) => {
-                let mut r = Numbers::bare(0);
-                r.value = value;
-                r
-            }
-            Answer::Fired(a, b, c) => {
-                let mut r = Numbers::bare(0);
-                r.fired = [a, b, c];
-                r
-            }
+impl From<Answer> for Numbers {
+    ghost from_gives = { λ answer numbers. numbers ≡ numbers_of answer };
+
+    #[tactic(auto, unfolding(crate::specs::Numbers::numbers_of))]
+    fn from(answer: Answer) -> Numbers {
+        match answer {
+            Answer::Done | Answer::Nothing => Numbers::bare(0),
+            Answer::Value(value) => Numbers {
+                value,
+                ..Numbers::bare(0)
+            },
+            Answer::Fired(a, b, c) => Numbers {
+                fired: [a, b, c],
+                ..Numbers::bare(0)
+            },
             Answer::Interrupt {
                 pin,
                 vector,
                 destination,
                 logical,
             } => Numbers {
-                value: 0,
-                number: 0,
                 delivered: 1,
-                fired: [0; 3],
                 pin,
                 vector,
                 destination,
                 logical,
+                ..Numbers::bare(0)
             },
-            Answer::Nothing => Numbers::bare(0),
-            Answer::Refused(refusal) => {
-                let number = refusal.number();
-                Numbers::bare(number)
-            }
+            Answer::Refused(refusal) => Numbers::bare(u32::from(refusal)),
         }
     }
 }

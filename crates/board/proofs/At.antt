@@ -11,7 +11,9 @@ use borrow.Author.Tests.{eq-eqb, ne_eqb, ltb-true}
 use Rattle.pins.proofs.Bools.{clash}
 use Rattle.answers.specs.declared.Answer.TheVariants as answer
 use Rattle.answers.specs.declared.Refusal.TheVariants as refusal
+use Rattle.std.specs.Prelude.{Option, None}
 use Rattle.entries.specs.declared.Entries.{Entries}
+use Rattle.entries.specs.declared.strike.Strike.{Strike}
 use Rattle.entries.specs.Strike.{struck_by}
 use Rattle.entries.proofs.Strikes.{struck-three, strike-none}
 use Rattle.controller.specs.declared.Controller.{Controller}
@@ -119,7 +121,7 @@ module _ (b : Board) (z : Formed b) (n : ℕ) (f : List ℕ) (is : f ≡ three (
           go (yes q) =
               rw (eq-eqb (get_or f m 0) (suc t) q, matches ∙ fires m l q)
               (fire-strikes x zx m l on-x
-              ∙ ap (λ (k : ℕ). with_entries x.controller (struck_by x.controller.entries k)) same-x
+              ∙ ap (λ (k : Option Strike). with_entries x.controller (struck_by x.controller.entries k)) same-x
               ∙ ap (λ (u : Controller). with_entries u (struck_by u.entries (strike_at b.timers m))) before)
           go (no d) =
               rw (ne_eqb (get_or f m 0) (suc t) d)
@@ -156,7 +158,7 @@ module _ (b : Board) (z : Formed b) (n : ℕ) (f : List ℕ) (is : f ≡ three (
       ap (with_entries b.controller)
       (struck-three b.controller.entries (strikes_of b.timers f)
       ∙ sym
-      (in_order (λ k x. struck_by x k) (λ x. strike-none x 0 (omega arith)) f (strike_at b.timers 0) (strike_at b.timers 1) (strike_at b.timers 2) n (f-le 0 (omega arith)) (f-le 1 (omega arith)) (f-le 2 (omega arith))
+      (in_order (λ k x. struck_by x k) None strike-none f (strike_at b.timers 0) (strike_at b.timers 1) (strike_at b.timers 2) n (f-le 0 (omega arith)) (f-le 1 (omega arith)) (f-le 2 (omega arith))
       b.controller.entries))
       ∙ walked n (omega arith)
     where

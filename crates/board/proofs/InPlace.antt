@@ -5,14 +5,17 @@ use mathlib.Core.Bool.{Bool, true, false, cond}
 use mathlib.Core.List.{List}
 use native.Mathlib.Nat.{mod-eq_of_lt}
 use native.Mathlib.Omega.{arith}
-use lib.Dec.{eqb}
+use lib.Dec.{eqb, ltb}
+use Rattle.std.specs.Prelude.{Some, None}
+use Rattle.answers.specs.declared.Answer.TheVariants as answer
 use Rattle.entries.specs.declared.EntryDecision.{EntryDecision}
 use Rattle.entries.specs.declared.WireDecision.{WireDecision}
+use Rattle.entries.specs.Table.{first_eligible}
 use Rattle.entries.specs.Decision.{stored_at, write_at, change_at, rewired}
 use Rattle.entries.proofs.Decided.{write-written, write_done, change-wired}
 use Rattle.controller.specs.State.{with_entries}
-use Rattle.controller.specs.Inner.{delivery_of, low_pin, rewired_at}
-use Rattle.controller.proofs.InPlace.{low-pin-value, low-pin-writes, delivering-decided}
+use Rattle.controller.specs.Inner.{delivery_of, delivery_if, low_pin, rewired_at}
+use Rattle.controller.proofs.InPlace.{low-pin-value, low-pin-writes, delivering-decided, some-if, delivering-none as controller-none}
 use Rattle.board.specs.declared.Board.{Board}
 use Rattle.board.specs.State.{board, with_controller, with_entry, with_wires, turn}
 use Rattle.board.specs.Step.{by_controller, writing_of, delivering_on_board}
@@ -42,6 +45,17 @@ module _ (b : Board) where
   pub delivering-renewed : delivering_on_board b ≡ renewed_by b (delivery_of b.controller b.controller.entries.low b.controller.entries.held)
   unfolding delivering_on_board
   delivering-renewed = ap (by_controller b) (delivering-decided b.controller)
+
+  -- as the code decides it: a pin's, or none
+  pub delivering-some : (d : EntryDecision) → Some d ≡ delivery_if b.controller b.controller.entries.low b.controller.entries.held → delivering_on_board b ≡ renewed_by b d
+  delivering-some d e =
+      delivering-renewed
+      ∙ ap (renewed_by b)
+      (sym (some-if (ltb (first_eligible b.controller.entries) 24) (delivery_of b.controller b.controller.entries.low b.controller.entries.held) d e))
+
+  pub delivering-none : None ≡ delivery_if b.controller b.controller.entries.low b.controller.entries.held → delivering_on_board b ≡ turn b answer.Nothing
+  unfolding delivering_on_board
+  delivering-none e = ap (by_controller b) (controller-none b.controller e)
 
   module _ (window width offset value : ℕ) (l : low_pin_of b.controller.index window width offset value < 24) where
     pub writing-low : writing_of b window width offset value ≡ low_write_at b (low_pin_of b.controller.index window width offset value) (value % 2 ^ 32)

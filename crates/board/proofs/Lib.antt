@@ -28,3 +28,4 @@ pub mod InHalves
 pub mod Words
 pub mod Remote
 pub mod Settings
+pub mod ByKind

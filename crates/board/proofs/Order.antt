@@ -1,5 +1,5 @@
--- Three strikes, each at one tick: as the ticks come, they are struck in the order of their ticks, and in one tick as
--- they stand.
+-- Three strikes, of whatever kind, each at one tick: as the ticks come, they are struck in the order of their ticks, and
+-- in one tick as they stand.
 use Prim.Native.Nat.{ℕ, zero, suc, ◌<◌, ◌≤◌}
 use mathlib.Core.Path.{◌≡◌, refl, sym, ap, ◌∙◌}
 use mathlib.Core.Bool.{Bool, true, false, cond}
@@ -16,25 +16,25 @@ unfoldable pub walk : {A : Type 0} → (ℕ → A → A) → ℕ → A → A
 walk u zero x = x
 walk u (suc t) x = u (suc t) (walk u t x)
 
-module _ {A : Type 0} (hit : ℕ → A → A) (none : (x : A) → hit 0 x ≡ x) where
+module _ {A K : Type 0} (hit : K → A → A) (idle : K) (none : (x : A) → hit idle x ≡ x) where
   -- strike k, due at tick f, as tick t comes
-  abbrev once : ℕ → ℕ → ℕ → A → A
+  abbrev once : ℕ → K → ℕ → A → A
   once f k t x = cond (eqb f t) (hit k x) x
 
   -- it is never due at tick 0
-  abbrev due : ℕ → ℕ → ℕ
-  due f k = cond (eqb f 0) 0 k
+  abbrev due : ℕ → K → K
+  due f k = cond (eqb f 0) idle k
 
   -- it, once n ticks have come
-  abbrev by : ℕ → ℕ → ℕ → A → A
+  abbrev by : ℕ → ℕ → K → A → A
   by n f k x = cond (leb f n) (hit (due f k) x) x
 
-  by-start : (f k : ℕ) (x : A) → by 0 f k x ≡ x
+  by-start : (f : ℕ) (k : K) (x : A) → by 0 f k x ≡ x
   by-start zero k x = none x
   by-start (suc f) k x = rw (lt-leb (suc f) 0 (omega arith))
 
   -- one more tick comes
-  by_next : (n f k : ℕ) (x : A) → once f k (suc n) (by n f k x) ≡ by (suc n) f k x
+  by_next : (n f : ℕ) (k : K) (x : A) → once f k (suc n) (by n f k x) ≡ by (suc n) f k x
   by_next n f k x = go (ℕ_discrete f (suc n)) (leb f n) refl
     where
       go : Dec (f ≡ suc n) → (b : Bool) → leb f n ≡ b → cond (eqb f (suc n)) (hit k (cond b (hit (due f k) x) x)) (cond b (hit (due f k) x) x) ≡ by (suc n) f k x
@@ -47,14 +47,14 @@ module _ {A : Type 0} (hit : ℕ → A → A) (none : (x : A) → hit 0 x ≡ x)
           later h d = omega arith
 
   -- one that is not due before another waits for it
-  by-past : (n f k g l : ℕ) (x : A) → f ≤ g → once f k (suc n) (by n g l x) ≡ by n g l (once f k (suc n) x)
+  by-past : (n f : ℕ) (k : K) (g : ℕ) (l : K) (x : A) → f ≤ g → once f k (suc n) (by n g l x) ≡ by n g l (once f k (suc n) x)
   by-past n f k g l x h = go (eqb f (suc n)) refl
     where
       go : (b : Bool) → eqb f (suc n) ≡ b → cond b (hit k (by n g l x)) (by n g l x) ≡ by n g l (cond b (hit k x) x)
       go true e = rw (lt-leb g n (omega (arith, eqb-true f (suc n) e)))
       go false e = refl
 
-  module _ (f a g b h c : ℕ) where
+  module _ (f : ℕ) (a : K) (g : ℕ) (b : K) (h : ℕ) (c : K) where
     -- the three at tick t
     abbrev pub three : ℕ → A → A
     three t x = once h c t (once g b t (once f a t x))
@@ -74,7 +74,7 @@ module _ {A : Type 0} (hit : ℕ → A → A) (none : (x : A) → hit 0 x ≡ x)
 
   -- ---- two that are due at different ticks may change places
 
-  swap : (t f a g b : ℕ) (x : A) → (f ≡ g → ⊥) → once g b t (once f a t x) ≡ once f a t (once g b t x)
+  swap : (t f : ℕ) (a : K) (g : ℕ) (b : K) (x : A) → (f ≡ g → ⊥) → once g b t (once f a t x) ≡ once f a t (once g b t x)
   swap t f a g b x d = go (eqb f t) refl (eqb g t) refl
     where
       go : (p : Bool) → eqb f t ≡ p → (q : Bool) → eqb g t ≡ q → cond q (hit b (cond p (hit a x) x)) (cond p (hit a x) x) ≡ cond p (hit a (cond q (hit b x) x)) (cond q (hit b x) x)
@@ -86,18 +86,18 @@ module _ {A : Type 0} (hit : ℕ → A → A) (none : (x : A) → hit 0 x ≡ x)
   walk_same u v e n x = ap (λ (w : ℕ → A → A). walk w n x) (λ i t y. e t y i)
 
   -- the first two of three, and the last two
-  swap-first : (f a g b h c n : ℕ) (x : A) → g < f → walk (three f a g b h c) n x ≡ walk (three g b f a h c) n x
+  swap-first : (f : ℕ) (a : K) (g : ℕ) (b : K) (h : ℕ) (c : K) (n : ℕ) (x : A) → g < f → walk (three f a g b h c) n x ≡ walk (three g b f a h c) n x
   swap-first f a g b h c n x l = walk_same (three f a g b h c) (three g b f a h c) (λ t y. ap (once h c t) (swap t f a g b y (λ e. omega arith))) n x
 
-  swap-last : (f a g b h c n : ℕ) (x : A) → h < g → walk (three f a g b h c) n x ≡ walk (three f a h c g b) n x
+  swap-last : (f : ℕ) (a : K) (g : ℕ) (b : K) (h : ℕ) (c : K) (n : ℕ) (x : A) → h < g → walk (three f a g b h c) n x ≡ walk (three f a h c g b) n x
   swap-last f a g b h c n x l = walk_same (three f a g b h c) (three f a h c g b) (λ t y. swap t g b h c (once f a t y) (λ e. omega arith)) n x
 
   -- ---- the order
 
-  abbrev pub hits : List ℕ → A → A
-  hits k x = hit (get_or k 2 0) (hit (get_or k 1 0) (hit (get_or k 0 0) x))
+  abbrev pub hits : List K → A → A
+  hits k x = hit (get_or k 2 idle) (hit (get_or k 1 idle) (hit (get_or k 0 idle) x))
 
-  module _ (f : List ℕ) (a b c n : ℕ) (f0 : get_or f 0 0 ≤ n) (f1 : get_or f 1 0 ≤ n) (f2 : get_or f 2 0 ≤ n) (x : A) where
+  module _ (f : List ℕ) (a b c : K) (n : ℕ) (f0 : get_or f 0 0 ≤ n) (f1 : get_or f 1 0 ≤ n) (f2 : get_or f 2 0 ≤ n) (x : A) where
     abbrev p : ℕ
     p = get_or f 0 0
 

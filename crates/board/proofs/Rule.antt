@@ -8,18 +8,24 @@ use native.Mathlib.Omega.{arith}
 use lib.Dec.{eqb, leb}
 use lib.ListN.{get_or, length}
 use mir.Val.{bool_byte}
+use Rattle.std.specs.Prelude.{Option}
+use Rattle.std.specs.Option.{unwrap_or}
 use Rattle.pins.specs.Pins.{pins}
 use Rattle.pins.proofs.Fill.{get_or-tab, length-tab}
 use Rattle.entries.specs.Table.{levels_ok}
 use Rattle.entries.proofs.Formed.{levels-of}
 use Rattle.timers.specs.declared.Timers.{Timers}
 use Rattle.timers.specs.Tick.{drives_of}
-use Rattle.timers.specs.Inner.{driven_of}
-use Rattle.timers.proofs.Wires.{drives-pin}
+use Rattle.timers.specs.Inner.{driven_pin, driven_of}
+use Rattle.timers.proofs.Wires.{driven-number, drives-pin}
 use Rattle.board.specs.Wires.{high_at, wires_of}
 
 abbrev rule : List ℕ → Timers → ℕ → ℕ
 rule o s p = bool_byte (high_at o s p)
+
+-- the pin that timer m drives, as the code has it in a number
+pub driven-by : (s : Timers) (m a : ℕ) (d : Option ℕ) → a ≡ unwrap_or d 24 → d ≡ driven_pin s m → a ≡ driven_of s m
+driven-by s m a d e f = e ∙ ap (λ (x : Option ℕ). unwrap_or x 24) f ∙ driven-number s m
 
 -- a wire by the pins that the timers drive, as the code finds it
 pub high-by :

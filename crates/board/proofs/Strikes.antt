@@ -95,7 +95,7 @@ module _ (b : Board) (z : Formed b) (m : ℕ) (l : m < 3) (on : is_enabled b.tim
           ∙ ap (with_entries c) (strike-rise e z.sized p pin ∙ ap (λ (q : ℕ). struck_by e (rise q)) (sym small) ∙ rw (h, r))
       go false r h =
           ap (λ (v : List ℕ). rewired c v) (flat r)
-          ∙ ap (with_entries c) (wired-same e z.sized ∙ sym (strike-none e 0 (omega arith)) ∙ rw (h, r))
+          ∙ ap (with_entries c) (wired-same e z.sized ∙ sym (strike-none e) ∙ rw (h, r))
 
 -- it is told by the pulses, the raising and the route, which stay
 pub strike-same : (s s' : Timers) (m : ℕ) → pulses_of s' m ≡ pulses_of s m → raises_of s' m ≡ raises_of s m → route_of s' m ≡ route_of s m → strike_at s' m ≡ strike_at s m

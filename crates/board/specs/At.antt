@@ -1,11 +1,12 @@
 -- The calls as the code makes them, at the pins that can change: only inner functions cite these.
 -- `proofs/At.antt` has that on a well-formed board each is the call of `Step.antt`.
-use Rattle.std.specs.Prelude.{ℕ, ◌%◌, cond, ◌||◌, List, ◌∷◌, [], eqb, leb, ltb, get_or, set}
+use Rattle.std.specs.Prelude.{ℕ, ◌%◌, cond, ◌||◌, List, ◌∷◌, [], Option, None, eqb, leb, ltb, get_or, set}
 use mir.Val.{bool_byte}
 use Rattle.answers.specs.declared.Answer.TheVariants as answer
 use Rattle.answers.specs.declared.Refusal.TheVariants as refusal
 use Rattle.entries.specs.Strike.{pulse, rise}
 use Rattle.entries.specs.declared.EntryDecision.{EntryDecision}
+use Rattle.entries.specs.declared.strike.Strike.{Strike}
 use Rattle.entries.specs.Decision.{write_at, renewed}
 use Rattle.controller.specs.State.{with_entries}
 use Rattle.controller.specs.Inner.{rewired_at, struck_of, low_pin}
@@ -47,22 +48,22 @@ low_write_at b n v = renewed_by b (write_at n v b.controller.entries.low b.contr
 -- ---- an advance: each timer that fires strikes its pin, at its first firing
 
 -- timer m's strike, as the controller has it: a pulse of its pin's wire, or a rise of it, or neither
-unfoldable pub strike_at : Timers → ℕ → ℕ
-strike_at s m = cond (pulses_of s m) (pulse (route_of s m % 256)) (cond (raises_of s m) (rise (route_of s m % 256)) 0)
+unfoldable pub strike_at : Timers → ℕ → Option Strike
+strike_at s m = cond (pulses_of s m) (pulse (route_of s m % 256)) (cond (raises_of s m) (rise (route_of s m % 256)) None)
 
 -- none, where it first fires at tick 0: never
-unfoldable pub strike_of : Timers → ℕ → ℕ → ℕ
-strike_of s m f = cond (eqb f 0) 0 (strike_at s m)
+unfoldable pub strike_of : Timers → ℕ → ℕ → Option Strike
+strike_of s m f = cond (eqb f 0) None (strike_at s m)
 
 -- three strikes in the order of their ticks; in one tick, as they come
-unfoldable pub ordered : List ℕ → ℕ → ℕ → ℕ → List ℕ
+unfoldable pub ordered {ℓ} : {K : Type ℓ} → List ℕ → K → K → K → List K
 ordered f a b c =
     cond (ltb (get_or f 1 0) (get_or f 0 0))
     (cond (ltb (get_or f 2 0) (get_or f 1 0)) (c ∷ b ∷ a ∷ []) (cond (ltb (get_or f 2 0) (get_or f 0 0)) (b ∷ c ∷ a ∷ []) (b ∷ a ∷ c ∷ [])))
     (cond (ltb (get_or f 2 0) (get_or f 0 0)) (c ∷ a ∷ b ∷ []) (cond (ltb (get_or f 2 0) (get_or f 1 0)) (a ∷ c ∷ b ∷ []) (a ∷ b ∷ c ∷ [])))
 
 -- those of the timers, where f has the ticks of their first firings
-unfoldable pub strikes_of : Timers → List ℕ → List ℕ
+unfoldable pub strikes_of : Timers → List ℕ → List (Option Strike)
 strikes_of s f = ordered f (strike_of s 0 (get_or f 0 0)) (strike_of s 1 (get_or f 1 0)) (strike_of s 2 (get_or f 2 0))
 
 abbrev pub ran_at : Board → Ran → Turn

@@ -5,75 +5,78 @@ ghost use Rattle.board.specs.declared.Call.TheVariants as call;
 ghost use Rattle.board.specs.Step.{turn_of};
 ghost use Rattle.board.specs.At.{strike_of, ordered, strikes_of, advancing_at};
 
-use crate::{Board, Turn};
-use answers::{Answer, Refusal};
-use entries::Entries;
+use crate::{Board, Call, Turn};
+use answers::Answer;
+use entries::strike::Strike;
 use timers::Timers;
 
-// Timer m's strike, where it first fires at the tick given, 0 for never.
-fn strike(s: Timers, m: usize, first: u32) -> u32
+/// Timer m's strike, where it first fires at the tick given, 0 for never.
+#[tactic(auto, unfolding(crate::specs::At::strike_of, crate::specs::At::strike_at))]
+fn strike_of(s: Timers, m: usize, first: u32) -> Option<Strike>
     ensures { result ≡ strike_of s m first }
 {
+    // Modulo 256 is a well-formed route itself, a pin below 24; of any other specs/At.antt#strike_at says it so too.
+    let pin = s.route(m) % 256;
     if first == 0 {
-        return 0;
+        None
+    } else if s.pulses(m) {
+        Some(Strike::Pulse(pin))
+    } else if s.raises(m) {
+        Some(Strike::Rise(pin))
+    } else {
+        None
     }
-    let pin = (s.route(m) % (Entries::PULSE as usize)) as u32;
-    if s.pulses(m) {
-        return Entries::PULSE + pin;
-    }
-    if s.raises(m) { Entries::RISE + pin } else { 0 }
 }
 
-// Three strikes in the order of their ticks; in one tick, as they come.
-fn ordered(f: [u32; 3], a: u32, b: u32, c: u32) -> [u32; 3]
+/// Three strikes in the order of their ticks; in one tick, as they come.
+#[tactic(auto, unfolding(crate::specs::At::ordered))]
+fn ordered(
+    f: [u32; 3],
+    a: Option<Strike>,
+    b: Option<Strike>,
+    c: Option<Strike>,
+) -> [Option<Strike>; 3]
     ensures { result ≡ ordered f a b c }
 {
-    if f[1] < f[0] {
-        if f[2] < f[1] {
-            return [c, b, a];
-        }
-        if f[2] < f[0] {
-            return [b, c, a];
-        }
-        return [b, a, c];
+    match (f[1] < f[0], f[2] < f[0], f[2] < f[1]) {
+        (true, _, true) => [c, b, a],
+        (true, true, false) => [b, c, a],
+        (true, false, false) => [b, a, c],
+        (false, true, _) => [c, a, b],
+        (false, false, true) => [a, c, b],
+        (false, false, false) => [a, b, c],
     }
-    if f[2] < f[0] {
-        return [c, a, b];
-    }
-    if f[2] < f[1] {
-        return [a, c, b];
-    }
-    [a, b, c]
 }
 
-// The timers' strikes, where these are the ticks of their first firings.
-fn strikes(s: Timers, f: [u32; 3]) -> [u32; 3]
+/// The timers' strikes, where these are the ticks of their first firings.
+#[tactic(auto, unfolding(crate::specs::At::strikes_of))]
+fn strikes(s: Timers, f: [u32; 3]) -> [Option<Strike>; 3]
     ensures { result ≡ strikes_of s f }
 {
     ordered(
         f,
-        strike(s, 0, f[0]),
-        strike(s, 1, f[1]),
-        strike(s, 2, f[2]),
+        strike_of(s, 0, f[0]),
+        strike_of(s, 1, f[1]),
+        strike_of(s, 2, f[2]),
     )
 }
 
 impl Board {
-    // n ticks at once: on a well-formed board, what the n-fold single tick gives.
+    /// n ticks at once: on a well-formed board, what the n-fold single tick gives.
+    #[tactic(auto, unfolding(crate::specs::At::advancing_at))]
     pub fn advancing(self, n: u32) -> Turn
         ensures { result ≡ advancing_at self n }
     {
-        let s = self.timers;
-        let c = self.controller;
+        // The parts are taken out of the board first: else the controller is copied once more.
+        let before = self.timers;
+        let controller = self.controller;
         let outside = self.outside;
-        let r = s.ran(n);
-        let timers = r.timers;
-        let fired = r.fired;
-        let first = r.first;
+        let ran = before.ran(n);
+        let fired = ran.fired;
         Turn {
             board: Board {
-                timers,
-                controller: c.struck(strikes(s, first)),
+                timers: ran.timers,
+                controller: controller.struck(strikes(before, ran.first)),
                 outside,
             },
             answer: Answer::Fired(fired[0], fired[1], fired[2]),
@@ -83,10 +86,6 @@ impl Board {
     pub fn advance(self, ticks: u32) -> Turn
         ensures { result ≡ turn_of self (call.Advance ticks) }
     {
-        if self.well_formed() {
-            self.advancing(ticks)
-        } else {
-            self.refused(Refusal::State)
-        }
+        self.step(Call::Advance { ticks })
     }
 }

@@ -2,6 +2,7 @@
 // value would store all of an array to change one element. Each is the call on the board that has these arrays; what is
 // decided is what the calls by value decide.
 ghost use Rattle.std.specs.Prelude.{◌≡◌};
+ghost use Rattle.pins.specs.Pins.{pin_at};
 ghost use Rattle.board.specs.declared.Board.{Board as AnyBoard};
 ghost use Rattle.board.specs.State.{turn, with_entry, with_wires};
 ghost use Rattle.board.specs.Step.{delivering_on_board};
@@ -10,39 +11,41 @@ ghost use Rattle.board.specs.At.{wiring_at, low_pin_of, low_write_at};
 use crate::Board;
 use answers::{Answer, Refusal};
 use controller::Controller;
-use entries::{Entries, EntryDecision, WireDecision};
+use entries::{EntryDecision, WireDecision};
 
+// `window, width, offset, value` and `pin, level` stay parameters here too: see step.rt.
 impl Board {
     pub fn deliver_in_place(self, low: &mut [u32; 24], held: &mut [u8; 24]) -> Answer
         ensures { turn (with_entry self low.new held.new) result
             ≡ delivering_on_board (with_entry self low.old held.old) }
     {
-        let c = self.controller;
-        let d = c.delivery(low, held);
-        let answer = d.answer;
+        let Some(d) = self.controller.delivery(low, held) else {
+            return Answer::Nothing;
+        };
         d.apply(low, held);
-        answer
+        d.answer
     }
 
-    // The pin whose low word a write goes to, by the controller's index; 24 if it goes elsewhere or is refused.
-    pub fn low_pin(index: u32, window: u64, width: u64, offset: u64, value: u64) -> usize
-        ensures { result ≡ low_pin_of index window width offset value }
+    /// The pin whose low word a write goes to, by the controller's index; none if it goes elsewhere or is refused.
+    #[tactic(auto, unfolding(crate::specs::At::low_pin_of))]
+    pub fn low_pin(index: u32, window: u64, width: u64, offset: u64, value: u64) -> Option<usize>
+        ensures { result ≡ pin_at (low_pin_of index window width offset value) }
     {
-        if window != Board::CONTROLLER {
-            return Entries::PINS;
+        if window == Board::CONTROLLER {
+            Controller::low_pin(index, width, offset, value)
+        } else {
+            None
         }
-        Controller::low_pin(index, width, offset, value)
     }
 
-    // A write of pin n's low word, whatever the rest of the board is.
+    /// A write of pin n's low word, whatever the rest of the board is.
     pub fn write_in_place(n: usize, value: u32, low: &mut [u32; 24], held: &mut [u8; 24]) -> Answer
         ensures { (b : AnyBoard) → turn (with_entry b low.new held.new) result
             ≡ low_write_at (with_entry b low.old held.old) n value }
     {
         let d = EntryDecision::write(n, value, low, held);
-        let answer = d.answer;
         d.apply(low, held);
-        answer
+        d.answer
     }
 
     pub fn wire_in_place(
@@ -63,11 +66,8 @@ impl Board {
             return Answer::Refused(Refusal::Level);
         }
         let n = pin as usize;
-        let c = self.controller;
-        let entries = c.entries;
-        let low = entries.low;
-        let timers = self.timers;
-        let high = (level == 1) | timers.drives(pin as u16);
+        let low = self.controller.entries.low;
+        let high = (level == 1) | self.timers.drives(pin as u16);
         let d = WireDecision::change(n, high as u8, &low, levels, held);
         d.apply(levels, held);
         outside[n] = level as u8;

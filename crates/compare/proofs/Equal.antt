@@ -23,8 +23,7 @@ use Rattle.timers.specs.State.{at, mask_at}
 use Rattle.timers.proofs.Three.{of_three}
 use Rattle.board.specs.declared.Board.{Board}
 use Rattle.board.specs.declared.Turn.{Turn}
-use Rattle.compare.specs.declared.Code.{Code}
-use Rattle.compare.specs.Code.{rank_of, code_of, ranked, meant}
+use Rattle.compare.specs.Code.{Code, rank_of, code_of, ranked, meant}
 use Rattle.compare.specs.Same.{same_code, same_answer, same_at, same_pins, same_timer, same_settings, same_timers, same_entries, same_controller, same_board, same_turn}
 
 -- ---- answers
@@ -136,7 +135,7 @@ module _ (x y : Timer) where
   abbrev t1 : Bool
   t1 = eqb x.period y.period && t2
 
-  same-timer : same_timer x y ≡ true → x ≡ y
+  pub same-timer : same_timer x y ≡ true → x ≡ y
   unfolding same_timer
   same-timer e =
       let e1 = later x.comparator y.comparator t1 e in

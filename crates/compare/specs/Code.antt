@@ -4,7 +4,14 @@ use Rattle.answers.specs.declared.Answer.{Answer}
 use Rattle.answers.specs.declared.Answer.TheVariants as answer
 use Rattle.answers.specs.declared.Refusal.{Refusal}
 use Rattle.answers.specs.declared.Refusal.TheVariants as refusal
-use Rattle.compare.specs.declared.Code.{Code}
+
+-- an answer as numbers: its kind, and its values
+pub record Code : Type 0 where
+  pub kind : ℕ
+  pub a : ℕ
+  pub b : ℕ
+  pub c : ℕ
+  pub d : ℕ
 
 -- each reason by a number of its own: three of the paper's numbers stand for two reasons each
 unfoldable pub rank_of : Refusal → ℕ

@@ -10,8 +10,7 @@ use Rattle.timers.specs.declared.Timers.{Timers}
 use Rattle.timers.specs.State.{at, mask_at}
 use Rattle.board.specs.declared.Board.{Board}
 use Rattle.board.specs.declared.Turn.{Turn}
-use Rattle.compare.specs.declared.Code.{Code}
-use Rattle.compare.specs.Code.{code_of}
+use Rattle.compare.specs.Code.{Code, code_of}
 
 -- ---- answers
 

@@ -1,21 +1,23 @@
 -- What a low-word write and a delivery come to at their pin, for a state that is changed in place.
-use mathlib.Core.Path.{◌≡◌, refl, sym}
+use mathlib.Core.Path.{◌≡◌, refl, sym, ap, ◌∙◌}
 use mathlib.Core.Bool.{Bool, true, false, not, cond, ◌||◌}
 use Prim.Native.Nat.{ℕ, ◌+◌, ◌-◌, ◌*◌, ◌/◌, ◌%◌, ◌^◌, ◌<◌, ◌≤◌}
 use native.Mathlib.Omega.{arith}
 use native.Mathlib.Decide.{dec_lt}
 use lib.Dec.{eqb, leb, ltb}
 use borrow.Author.Tests.{not-false, eqb-true, eqb-false, ltb-false, leb-false, lt-ltb, le-ltb, lt-leb, ne_eqb}
+use Rattle.std.specs.Prelude.{Option, Some, None}
 use Rattle.pins.proofs.Bools.{clash}
 use Rattle.answers.specs.declared.Answer.TheVariants as answer
 use Rattle.entries.specs.Table.{first_eligible, low_written}
+use Rattle.entries.specs.declared.EntryDecision.{EntryDecision}
 use Rattle.entries.specs.Decision.{renewed}
 use Rattle.entries.proofs.Decided.{delivery-taken, delivery-given, delivery-rests, delivery-none}
 use Rattle.controller.specs.declared.Controller.{Controller}
 use Rattle.controller.specs.State.{with_entries, turn}
 use Rattle.controller.specs.Window.{data_written, writing_of}
 use Rattle.controller.specs.Steps.{delivering_of}
-use Rattle.controller.specs.Inner.{delivery_of, low_pin}
+use Rattle.controller.specs.Inner.{delivery_of, delivery_if, low_pin}
 
 -- ---- a low-word write
 
@@ -84,6 +86,24 @@ low-pin-entry n value l v =
 
 -- ---- a delivery
 
+is_some : {A : Type 0} → Option A → Bool
+is_some (Some x) = true
+is_some None = false
+
+the : {A : Type 0} → A → Option A → A
+the y (Some x) = x
+the y None = y
+
+pub some-if : {A : Type 0} (b : Bool) (x y : A) → Some y ≡ cond b (Some x) None → y ≡ x
+unfolding is_some the
+some-if true x y e = ap (the x) e
+some-if false x y e = clash (ap is_some e)
+
+pub none-if : {A : Type 0} (b : Bool) (x : A) → None ≡ cond b (Some x) None → b ≡ false
+unfolding is_some
+none-if true x e = clash (sym (ap is_some e))
+none-if false x e = refl
+
 module _ (c : Controller) where
   pub delivering-decided :
       delivering_of c
@@ -102,3 +122,14 @@ module _ (c : Controller) where
           let above : 24 ≤ first_eligible c.entries = omega arith in
           rw (le-ltb (first_eligible c.entries) 24 above)
           (λ i. turn (with_entries c (sym (delivery-rests c.entries (first_eligible c.entries) above) i)) (sym (delivery-none c.entries (first_eligible c.entries) above) i))
+
+  -- as the code decides it: a pin's, or none
+  pub delivering-some : (d : EntryDecision) → Some d ≡ delivery_if c c.entries.low c.entries.held → delivering_of c ≡ turn (with_entries c (renewed c.entries d)) d.answer
+  delivering-some d e =
+      delivering-decided
+      ∙ ap (λ (x : EntryDecision). turn (with_entries c (renewed c.entries x)) x.answer)
+      (sym (some-if (ltb (first_eligible c.entries) 24) (delivery_of c c.entries.low c.entries.held) d e))
+
+  pub delivering-none : None ≡ delivery_if c c.entries.low c.entries.held → delivering_of c ≡ turn c answer.Nothing
+  unfolding delivering_of
+  delivering-none e = rw (none-if (ltb (first_eligible c.entries) 24) (delivery_of c c.entries.low c.entries.held) e)

@@ -10,15 +10,16 @@ mod window;
 use answers::Answer;
 use entries::Entries;
 
-// No byte of it is padding. The id and the index are wider than their registers: what doesn't fit is not well formed.
+/// No byte of it is padding. The id and the index are wider than their registers: what doesn't fit is not well formed.
 #[repr(C)]
-#[derive(Clone, Copy)]
+#[derive(Clone, Copy, PartialEq, Eq)]
 pub struct Controller {
     pub id: u32,
     pub index: u32,
     pub entries: Entries,
 }
 
+// No Result: `turn_of` gives a state on a refusal too. Not generic: theorems name `Turn.controller`.
 #[derive(Clone, Copy)]
 pub struct Turn {
     pub controller: Controller,

@@ -1,10 +1,13 @@
 // Wires, end of interrupt, delivery.
-ghost use Rattle.std.specs.Prelude.{◌≡◌};
+ghost use Rattle.std.specs.Prelude.{◌≡◌, MatchResult};
+ghost use Rattle.answers.specs.declared.Answer.TheVariants as answer;
+ghost use Rattle.controller.specs.State.{turn, refused, tested};
 ghost use Rattle.controller.specs.Steps.{rewired, wire_of, after_end, end_of, delivering_of, deliver_of};
-ghost use Rattle.controller.specs.Inner.{struck_of, delivery_of};
+ghost use Rattle.controller.specs.Inner.{struck_of, delivery_if};
 
 use crate::{Controller, Turn};
 use answers::{Answer, Refusal};
+use entries::strike::Strike;
 use entries::{Entries, EntryDecision};
 
 impl Controller {
@@ -13,86 +16,80 @@ impl Controller {
 
     pub const LAST_LEVEL: u64 = 1;
 
-    // All wires at once.
+    /// All wires at once.
     pub fn rewired(self, levels: [u8; 24]) -> Controller
         ensures { result ≡ rewired self levels }
     {
-        let entries = self.entries;
-        let mut next = self;
-        next.entries = entries.wired(levels);
-        next
+        Controller {
+            entries: self.entries.wired(levels),
+            ..self
+        }
     }
 
-    // Up to three pins are struck, one after the other.
-    pub fn struck(self, strikes: [u32; 3]) -> Controller
+    /// Up to three pins are struck, one after the other.
+    pub fn struck(self, strikes: [Option<Strike>; 3]) -> Controller
         ensures { result ≡ struck_of self strikes }
     {
-        let entries = self.entries;
-        let mut next = self;
-        next.entries = entries.struck(strikes);
-        next
+        Controller {
+            entries: self.entries.struck(strikes),
+            ..self
+        }
+    }
+
+    // The state after a change of one wire.
+    #[tactic(auto, unfolding(crate::specs::Steps::wire_of))]
+    fn wire_changed(self, pin: u64, level: u64) -> Result<Controller, Refusal>
+        ensures { MatchResult result
+            (λ c. wire_of self pin level ≡ tested self (turn c answer.Done))
+            (λ r. wire_of self pin level ≡ tested self (refused self r)) }
+    {
+        if Controller::PINS <= pin {
+            return Err(Refusal::Pin);
+        }
+        if Controller::LAST_LEVEL < level {
+            return Err(Refusal::Level);
+        }
+        let mut levels = self.entries.level;
+        levels[pin as usize] = level as u8;
+        Ok(self.rewired(levels))
     }
 
     pub fn wire(self, pin: u64, level: u64) -> Turn
         ensures { result ≡ wire_of self pin level }
     {
-        if !self.well_formed() {
-            return self.refused(Refusal::State);
-        }
-        if Controller::PINS <= pin {
-            return self.refused(Refusal::Pin);
-        }
-        if Controller::LAST_LEVEL < level {
-            return self.refused(Refusal::Level);
-        }
-        let entries = self.entries;
-        let mut levels = entries.level;
-        let n = pin as usize;
-        levels[n] = level as u8;
-        Turn {
-            controller: self.rewired(levels),
-            answer: Answer::Done,
-        }
+        self.served(|c| c.done(c.wire_changed(pin, level)))
     }
 
     pub fn ending(self, vector: u8) -> Controller
         ensures { result ≡ after_end self vector }
     {
-        let entries = self.entries;
-        let mut next = self;
-        next.entries = entries.ended(vector);
-        next
-    }
-
-    pub fn end(self, vector: u8) -> Turn
-        ensures { result ≡ end_of self vector }
-    {
-        if self.well_formed() {
-            Turn {
-                controller: self.ending(vector),
-                answer: Answer::Done,
-            }
-        } else {
-            self.refused(Refusal::State)
+        Controller {
+            entries: self.entries.ended(vector),
+            ..self
         }
     }
 
-    // The delivery step decided, of the controller that has these low words and held edges.
-    pub fn delivery(self, low: &[u32; 24], held: &[u8; 24]) -> EntryDecision
-        ensures { result ≡ delivery_of self low.now held.now }
+    #[tactic(auto, unfolding(crate::specs::Steps::end_of))]
+    pub fn end(self, vector: u8) -> Turn
+        ensures { result ≡ end_of self vector }
+    {
+        self.served(|c| c.done(Ok(c.ending(vector))))
+    }
+
+    /// The delivery step decided, of the controller that has these low words and held edges; none if no pin is
+    /// eligible.
+    pub fn delivery(self, low: &[u32; 24], held: &[u8; 24]) -> Option<EntryDecision>
+        ensures { result ≡ delivery_if self low.now held.now }
     {
         let entries = self.entries;
         let destination = entries.destination;
-        let level = entries.level;
-        let words = *low;
-        let edges = *held;
         let lent = Entries {
-            low: words,
-            destination,
-            level,
-            held: edges,
+            low: *low,
+            held: *held,
+            ..entries
         };
-        EntryDecision::delivery(lent.first_eligible(), &destination, low, held)
+        let n = lent.first_eligible()?;
+        Some(EntryDecision::delivery(n, &destination, low, held))
     }
 
     pub fn delivering(self) -> Turn
@@ -101,23 +98,25 @@ impl Controller {
         let entries = self.entries;
         let low = entries.low;
         let held = entries.held;
-        let d = self.delivery(&low, &held);
-        let answer = d.answer;
+        let Some(d) = self.delivery(&low, &held) else {
+            return Turn {
+                controller: self,
+                answer: Answer::Nothing,
+            };
+        };
+        // Stored in place: a struct made anew, by ..self, takes a fifth longer here.
         let mut next = self;
         next.entries = entries.renewed(d);
         Turn {
             controller: next,
-            answer,
+            answer: d.answer,
         }
     }
 
+    #[tactic(auto, unfolding(crate::specs::Steps::deliver_of))]
     pub fn deliver(self) -> Turn
         ensures { result ≡ deliver_of self }
     {
-        if self.well_formed() {
-            self.delivering()
-        } else {
-            self.refused(Refusal::State)
-        }
+        self.served(|c| c.delivering())
     }
 }

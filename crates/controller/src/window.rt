@@ -1,11 +1,70 @@
-ghost use Rattle.std.specs.Prelude.{◌≡◌};
-ghost use Rattle.controller.specs.Inner.{low_pin};
+ghost use Rattle.std.specs.Prelude.{◌≡◌, MatchResult};
+ghost use Rattle.answers.specs.declared.Answer.TheVariants as answer;
+ghost use Rattle.pins.specs.Pins.{pin_at};
+ghost use Rattle.controller.specs.Inner.{place_at, register_of, low_pin};
+ghost use Rattle.controller.specs.State.{turn, refused};
 ghost use Rattle.controller.specs.Window.{id_shown, data_read, data_written, reading_of, writing_of, read_of, write_of};
 
 use crate::{Controller, Turn};
 use answers::{Answer, Refusal};
-use entries::Entries;
 
+// The window's two places.
+#[derive(Clone, Copy)]
+enum Place {
+    Index,
+    Data,
+}
+
+impl Place {
+    #[tactic(auto, unfolding(crate::specs::Inner::place_at))]
+    fn at(width: u64, offset: u64) -> Result<Place, Refusal>
+        ensures { result ≡ place_at width offset }
+    {
+        if width != Controller::WIDTH {
+            return Err(Refusal::Width);
+        }
+        match offset {
+            Controller::INDEX => Ok(Place::Index),
+            Controller::DATA => Ok(Place::Data),
+            _ => Err(Refusal::Offset),
+        }
+    }
+}
+
+// The registers, by index. Those of an entry have its number.
+#[derive(Clone, Copy)]
+enum Register {
+    Id,
+    Version,
+    Arbitration,
+    Low(usize),
+    High(usize),
+    Unused,
+}
+
+impl From<u32> for Register {
+    ghost from_gives = { λ index register. register ≡ register_of index };
+
+    #[tactic(auto, unfolding(crate::specs::Inner::register_of))]
+    fn from(index: u32) -> Register {
+        match index {
+            Controller::ID => Register::Id,
+            Controller::VERSION => Register::Version,
+            Controller::ARBITRATION => Register::Arbitration,
+            Controller::ENTRIES..Controller::ENTRIES_END => {
+                let n = ((index - Controller::ENTRIES) >> 1) as usize;
+                if index & 1 == 0 {
+                    Register::Low(n)
+                } else {
+                    Register::High(n)
+                }
+            }
+            _ => Register::Unused,
+        }
+    }
+}
+
+// `width, offset, value` stay parameters, in `Place::at` too: `read_of` and `write_of` take them, in the paper's order.
 impl Controller {
     // ---- the window
 
@@ -16,7 +75,7 @@ impl Controller {
     // the index, writable: bits 7:0 kept, the rest read 0
     pub const INDEX: u64 = 0x00;
 
-    pub const INDEX_KEPT: u64 = 0xff;
+    pub const INDEX_KEPT: u32 = 0xff;
     // the data window: the register that the index names
     pub const DATA: u64 = 0x10;
 
@@ -46,140 +105,120 @@ impl Controller {
     }
 
     // The register that the index names.
+    #[tactic(auto, unfolding(crate::specs::Window::data_read, crate::specs::Inner::register_of))]
     fn data_read(self) -> u32
         ensures { result ≡ data_read self }
     {
-        let index = self.index;
-        if index == Controller::ID {
-            return self.id_shown();
+        match Register::from(self.index) {
+            Register::Id | Register::Arbitration => self.id_shown(),
+            Register::Version => Controller::VERSION_VALUE,
+            Register::Low(n) => self.entries.low_shown(n),
+            Register::High(n) => self.entries.high_shown(n),
+            Register::Unused => 0,
         }
-        if index == Controller::VERSION {
-            return Controller::VERSION_VALUE;
-        }
-        if index == Controller::ARBITRATION {
-            return self.id_shown();
-        }
-        if index < Controller::ENTRIES {
-            return 0;
-        }
-        if Controller::ENTRIES_END <= index {
-            return 0;
-        }
-        let entries = self.entries;
-        let n = ((index - Controller::ENTRIES) >> 1) as usize;
-        if index & 1 == 0 {
-            entries.low_shown(n)
-        } else {
-            entries.high_shown(n)
+    }
+
+    // What stands at an offset of the window.
+    #[tactic(auto, unfolding(crate::specs::Window::reading_of, crate::specs::Inner::place_at))]
+    fn value_read(self, width: u64, offset: u64) -> Result<u32, Refusal>
+        ensures { MatchResult result
+            (λ v. reading_of self width offset ≡ turn self (answer.Value v))
+            (λ r. reading_of self width offset ≡ refused self r) }
+    {
+        match Place::at(width, offset)? {
+            Place::Index => Ok(self.index),
+            Place::Data => Ok(self.data_read()),
         }
     }
 
     pub fn reading(self, width: u64, offset: u64) -> Turn
         ensures { result ≡ reading_of self width offset }
     {
-        if width != Controller::WIDTH {
-            return self.refused(Refusal::Width);
-        }
-        if offset == Controller::INDEX {
-            return Turn {
+        match self.value_read(width, offset) {
+            Ok(value) => Turn {
                 controller: self,
-                answer: Answer::Value(self.index as u64),
-            };
+                answer: Answer::Value(value as u64),
+            },
+            Err(refusal) => self.refused(refusal),
         }
-        if offset == Controller::DATA {
-            return Turn {
-                controller: self,
-                answer: Answer::Value(self.data_read() as u64),
-            };
-        }
-        self.refused(Refusal::Offset)
     }
 
+    #[tactic(auto, unfolding(crate::specs::Window::read_of))]
     pub fn read(self, width: u64, offset: u64) -> Turn
         ensures { result ≡ read_of self width offset }
     {
-        if self.well_formed() {
-            self.reading(width, offset)
-        } else {
-            self.refused(Refusal::State)
-        }
+        self.served(|c| c.reading(width, offset))
     }
 
     // The state after a write to the register that the index names.
+    #[tactic(auto, unfolding(crate::specs::Window::data_written, crate::specs::Inner::register_of))]
     fn data_written(self, value: u32) -> Controller
         ensures { result ≡ data_written self value }
     {
-        let index = self.index;
-        let mut next = self;
-        if index == Controller::ID {
-            next.id = (value >> Controller::ID_AT) & Controller::ID_KEPT;
-            return next;
+        match Register::from(self.index) {
+            Register::Id => Controller {
+                id: (value >> Controller::ID_AT) & Controller::ID_KEPT,
+                ..self
+            },
+            Register::Low(n) => Controller {
+                entries: self.entries.low_written(n, value),
+                ..self
+            },
+            Register::High(n) => Controller {
+                entries: self.entries.high_written(n, value),
+                ..self
+            },
+            Register::Version | Register::Arbitration | Register::Unused => self,
         }
-        if index < Controller::ENTRIES {
-            return self;
-        }
-        if Controller::ENTRIES_END <= index {
-            return self;
-        }
-        let entries = self.entries;
-        let n = ((index - Controller::ENTRIES) >> 1) as usize;
-        if index & 1 == 0 {
-            next.entries = entries.low_written(n, value);
-        } else {
-            next.entries = entries.high_written(n, value);
-        }
-        next
     }
 
-    // The pin whose low word a write goes to, by the index; 24 if it goes elsewhere or is refused.
-    pub fn low_pin(index: u32, width: u64, offset: u64, value: u64) -> usize
-        ensures { result ≡ low_pin index width offset value }
+    /// The pin whose low word a write goes to, by the index; none if it goes elsewhere or is refused.
+    #[tactic(auto, unfolding(crate::specs::Inner::low_pin, crate::specs::Inner::place_at, crate::specs::Inner::register_of))]
+    pub fn low_pin(index: u32, width: u64, offset: u64, value: u64) -> Option<usize>
+        ensures { result ≡ pin_at (low_pin index width offset value) }
     {
-        if (width != Controller::WIDTH)
-            | (offset != Controller::DATA)
-            | (Controller::VALUE_END <= value)
-        {
-            return Entries::PINS;
+        let Ok(Place::Data) = Place::at(width, offset) else {
+            return None;
+        };
+        if Controller::VALUE_END <= value {
+            return None;
         }
-        if (index < Controller::ENTRIES) | (Controller::ENTRIES_END <= index) | (index & 1 == 1) {
-            return Entries::PINS;
+        match Register::from(index) {
+            Register::Low(n) => Some(n),
+            _ => None,
         }
-        ((index - Controller::ENTRIES) >> 1) as usize
+    }
+
+    // The state after a write to an offset of the window.
+    #[tactic(auto, unfolding(crate::specs::Window::writing_of, crate::specs::Inner::place_at))]
+    fn written(self, width: u64, offset: u64, value: u64) -> Result<Controller, Refusal>
+        ensures { MatchResult result
+            (λ c. writing_of self width offset value ≡ turn c answer.Done)
+            (λ r. writing_of self width offset value ≡ refused self r) }
+    {
+        let place = Place::at(width, offset)?;
+        let Ok(value) = u32::try_from(value) else {
+            return Err(Refusal::Value);
+        };
+        match place {
+            Place::Index => Ok(Controller {
+                index: value & Controller::INDEX_KEPT,
+                ..self
+            }),
+            Place::Data => Ok(self.data_written(value)),
+        }
     }
 
     pub fn writing(self, width: u64, offset: u64, value: u64) -> Turn
         ensures { result ≡ writing_of self width offset value }
     {
-        if width != Controller::WIDTH {
-            return self.refused(Refusal::Width);
-        }
-        if (offset != Controller::INDEX) & (offset != Controller::DATA) {
-            return self.refused(Refusal::Offset);
-        }
-        if Controller::VALUE_END <= value {
-            return self.refused(Refusal::Value);
-        }
-        if offset == Controller::INDEX {
-            let mut next = self;
-            next.index = (value & Controller::INDEX_KEPT) as u32;
-            return Turn {
-                controller: next,
-                answer: Answer::Done,
-            };
-        }
-        Turn {
-            controller: self.data_written(value as u32),
-            answer: Answer::Done,
-        }
+        self.done(self.written(width, offset, value))
     }
 
+    #[tactic(auto, unfolding(crate::specs::Window::write_of))]
     pub fn write(self, width: u64, offset: u64, value: u64) -> Turn
         ensures { result ≡ write_of self width offset value }
     {
-        if self.well_formed() {
-            self.writing(width, offset, value)
-        } else {
-            self.refused(Refusal::State)
-        }
+        self.served(|c| c.writing(width, offset, value))
     }
 }

@@ -1,6 +1,6 @@
 -- A key's masks as sums of its fields, and what they decide: the same as the low word does.
 use mathlib.Core.Path.{◌≡◌, refl, sym, ap, ap₂, ◌∙◌}
-use mathlib.Core.Bool.{Bool, true, false, not, ◌&&◌, ◌||◌}
+use mathlib.Core.Bool.{Bool, true, false, not, cond, ◌&&◌, ◌||◌}
 use mathlib.Core.List.{List}
 use Prim.Native.Nat.{ℕ, zero, suc, ◌+◌, ◌*◌, ◌/◌, ◌%◌, ◌^◌, ◌<◌, ◌≤◌, min}
 use native.Mathlib.Nat.{mod-lt, mod-eq_of_lt, zero-add, add-zero, add_comm}
@@ -9,9 +9,9 @@ use native.Mathlib.Decide.{ℕ_discrete}
 use lib.Dec.{eqb, ltb, lit<}
 use borrow.Author.Tests.{eq-eqb, ne_eqb, lt-ltb, le-ltb}
 use lib.Bits.{bit_and, bit_or, bit_xor, and_mask, and_high, and_le_l, and_le_r, xor_lt, xor_add_and, xor_block, or_shifted_r}
-use lib.Count.{count_trailing_zeros}
+use lib.Count.{count_trailing_zeros, under}
 use mir.Val.{bool_byte}
-use Rattle.pins.specs.Pins.{bits_from, bits_of}
+use Rattle.pins.specs.Pins.{bits_from, bits_of, first_from}
 use Rattle.pins.proofs.Bit.{and_split}
 use Rattle.pins.proofs.Fill.{get_or-tab}
 use Rattle.pins.proofs.Digits.{bits-lt, bits-over, bits-same, zeros-first}
@@ -206,6 +206,36 @@ module _ (w : ℕ) where
       let k = w / 2 % 65536 in
       rw (masked-of k fits-key ∙ masked-key, level-of k fits-key ∙ level-key, remote-of k fits-key ∙ remote-key, active-low-of k fits-key ∙ active-low-key, mode-of k fits-key ∙ mode-key)
 
+-- ---- the lowest bit that is 1
+
+module _ (p : ℕ → Bool) where
+  found-above : (at n k x r : ℕ) (b : Bool) → ((x ≡ 0 → ⊥) → (suc at + count_trailing_zeros k x ≡ r) × (r < suc at + n)) → (x * 2 + bool_byte b ≡ 0 → ⊥)
+      → (at + under ((x * 2 + bool_byte b) % 2) (count_trailing_zeros k ((x * 2 + bool_byte b) / 2)) ≡ cond b at r) × (cond b at r < at + suc n)
+  found-above at n k x r true f g =
+      let odd : (x * 2 + 1) % 2 ≡ 1 = omega arith in
+      (rw odd (add-zero at), omega arith)
+  found-above at n k x r false f g =
+      let even : (x * 2 + 0) % 2 ≡ 0 = omega arith in
+      let half : (x * 2 + 0) / 2 ≡ x = omega arith in
+      let y = f (λ q. g (omega (arith, q))) in
+      (rw (even, half) (omega (arith, y.0)), omega (arith, y.1))
+
+  zeros-found : (at n k : ℕ) → n ≤ k → (bits_from p at n ≡ 0 → ⊥) → (at + count_trailing_zeros k (bits_from p at n) ≡ first_from p at n) × (first_from p at n < at + n)
+  unfolding bits_from first_from count_trailing_zeros
+  zeros-found at zero k h f = absurd (f refl)
+  zeros-found at (suc n) zero h f = absurd (omega (arith, h))
+  zeros-found at (suc n) (suc k) h f =
+      found-above at n k (bits_from p (suc at) n) (first_from p (suc at) n) (p at) (zeros-found (suc at) n k (omega (arith, h))) f
+
+  none-above : (at n x r : ℕ) (b : Bool) → (x ≡ 0 → r ≡ suc at + n) → x * 2 + bool_byte b ≡ 0 → cond b at r ≡ at + suc n
+  none-above at n x r true f q = absurd (omega (arith, q))
+  none-above at n x r false f q = omega (arith, f (omega (arith, q)))
+
+  none-found : (at n : ℕ) → bits_from p at n ≡ 0 → first_from p at n ≡ at + n
+  unfolding bits_from first_from
+  none-found at zero e = sym (add-zero at)
+  none-found at (suc n) e = none-above at n (bits_from p (suc at) n) (first_from p (suc at) n) (p at) (none-found (suc at) n) e
+
 -- ---- all pins
 
 module _ (e : Entries) where
@@ -233,3 +263,15 @@ module _ (e : Entries) where
       ap (count_trailing_zeros 32) (or_shifted_r 1 24 b (bits-lt (eligible_at e) 0 24) ∙ add_comm (2 ^ 24) b)
       ∙ sym (zero-add (count_trailing_zeros 32 (b + 2 ^ 24)))
       ∙ zeros-first (eligible_at e) 0 24 32 (lit< tt)
+
+  -- as the code counts it, where any pin is eligible
+  pub lowest-counted : (eligible_pins e ≡ 0 → ⊥) → (count_trailing_zeros 32 (eligible_pins e) ≡ first_eligible e) × (first_eligible e < 24)
+  unfolding eligible_pins first_eligible
+  lowest-counted f =
+      let x = zeros-found (eligible_at e) 0 24 32 (omega arith) f in
+      (sym (zero-add (count_trailing_zeros 32 (bits_of (eligible_at e)))) ∙ x.0, omega (arith, x.1))
+
+  -- and where none is
+  pub lowest-none : eligible_pins e ≡ 0 → first_eligible e ≡ 24
+  unfolding eligible_pins first_eligible
+  lowest-none = none-found (eligible_at e) 0 24

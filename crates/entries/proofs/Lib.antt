@@ -1,4 +1,5 @@
 pub mod Fields
+pub mod Each
 pub mod Sized
 pub mod Written
 pub mod Formed

@@ -1,24 +1,18 @@
 // The eligible pins as one number, and the lowest of them: its trailing zeros.
-ghost use Rattle.std.specs.Prelude.{◌≡◌, ◌≤◌, ◌*◌, min};
+ghost use Rattle.std.specs.Prelude.{◌≡◌, ◌≤◌, ◌*◌};
 ghost use mir.Val.{bool_byte};
-ghost use Rattle.pins.specs.Pins.{bits_from};
+ghost use Rattle.pins.specs.Pins.{bits_from, pin_at};
 ghost use Rattle.entries.specs.Pin.{eligible};
 ghost use Rattle.entries.specs.Table.{first_eligible};
 ghost use Rattle.entries.specs.Inner.{eligible_pins, edge_eligible, level_eligible, key_of, keys_of, eligible_by_key};
 
 use crate::{Entries, Low};
+use std::array;
 
 // Bits 16:1 of a low word: all of the word that decides whether its pin is eligible. With half the width twice as many
 // fit the processor's vectors; docs/BENCHMARKS.md has what other forms cost. Arrays hold plain u16, not `Key`.
 #[derive(Clone, Copy)]
 struct Key(u16);
-
-// A level that is neither 0 nor 1 differs from either polarity, as 2 does.
-fn at_most_2(level: u8) -> u8
-    ensures { result ≡ min level 2 }
-{
-    if level < 2 { level } else { 2 }
-}
 
 impl Key {
     // ---- its bits: the low word's, a place lower
@@ -40,11 +34,11 @@ impl Key {
     }
 
     // A bit that stands in the way, a missing level bit too, makes the left side 128 or more. The right side is 0 where
-    // the pin is not asserted, and 3 at most.
+    // the pin is not asserted, and 3 at most. A level that is neither 0 nor 1 differs from either polarity, as 2 does.
     fn by_level(self, level: u8) -> bool
         ensures { result ≡ level_eligible (self.0 * 2) level }
     {
-        let differs = at_most_2(level) as u16 ^ ((self.0 >> Key::ACTIVE_LOW_AT) & 1);
+        let differs = level.min(2) as u16 ^ ((self.0 >> Key::ACTIVE_LOW_AT) & 1);
         (self.0 & Key::LEVEL) ^ Key::LEVEL_ALONE < differs
     }
 
@@ -62,6 +56,7 @@ impl Low {
 
     const KEY: u32 = 0xffff;
 
+    #[tactic(auto, unfolding(crate::specs::Inner::key_of))]
     fn key(self) -> u16
         ensures { result ≡ key_of self.0 }
     {
@@ -70,19 +65,11 @@ impl Low {
 }
 
 impl Entries {
-    // bit 24, after the last pin's
-    const AFTER: u32 = 0x0100_0000;
-
     fn keys(low: [u32; 24]) -> [u16; 24]
         ensures { result ≡ keys_of low }
     {
-        let mut keys: [u16; 24] = [0; 24];
-        let mut i: usize = 0;
-        while i < Entries::PINS {
-            keys[i] = Low(low[i]).key();
-            i += 1;
-        }
-        keys
+        // Not low.map(..), which is not worked in vectors: a delivery took twice as long.
+        array::from_fn(|i| Low(low[i]).key())
     }
 
     // Pins from `at` on, the lowest in bit 0.
@@ -91,15 +78,13 @@ impl Entries {
         ensures { result ≡ bits_from (eligible_by_key keys level held) at 16 }
     {
         let mut mask: u16 = 0;
-        let mut i: usize = 0;
-        while i < 16 {
-            mask = mask | Key(keys[at + i]).eligible(level[at + i], held[at + i]) << (i as u32);
-            i += 1;
+        for i in 0..16 {
+            mask |= Key(keys[at + i]).eligible(level[at + i], held[at + i]) << (i as u32);
         }
         mask
     }
 
-    // Pins 8 to 15 stand in both. docs/BENCHMARKS.md has other ways to part the pins.
+    /// Pins 8 to 15 stand in both. docs/BENCHMARKS.md has other ways to part the pins.
     pub fn eligible_pins(self) -> u32
         ensures { result ≡ eligible_pins self }
     {
@@ -112,10 +97,14 @@ impl Entries {
         first as u32 | (last as u32) << 8
     }
 
-    // With bit 24 put in, the count is 24 where no pin is eligible.
-    pub fn first_eligible(self) -> usize
-        ensures { result ≡ first_eligible self }
+    /// The lowest-numbered eligible pin, if any is.
+    pub fn first_eligible(self) -> Option<usize>
+        ensures { result ≡ pin_at (first_eligible self) }
     {
-        u32::trailing_zeros(self.eligible_pins() | Entries::AFTER) as usize
+        let pins = self.eligible_pins();
+        if pins == 0 {
+            return None;
+        }
+        Some(u32::trailing_zeros(pins) as usize)
     }
 }

@@ -6,7 +6,7 @@
 mod decision;
 mod eligible;
 mod pin;
-mod strike;
+pub mod strike;
 mod table;
 mod wellformed;
 mod wires;
@@ -14,13 +14,14 @@ mod word;
 
 use answers::Answer;
 
-// The low word of an entry, taken apart by bit position.
+/// The low word of an entry, taken apart by bit position.
 #[derive(Clone, Copy)]
 pub struct Low(pub u32);
 
-// By value: low words, destinations, wire levels and held edges (0 or 1).
+/// By value: low words, destinations, wire levels and held edges (0 or 1).
+// A level and a held edge are a byte, and no bool: any byte pattern of lent memory is a board.
 #[repr(C)]
-#[derive(Clone, Copy)]
+#[derive(Clone, Copy, PartialEq, Eq)]
 pub struct Entries {
     pub low: [u32; 24],
     pub destination: [u8; 24],
@@ -28,7 +29,8 @@ pub struct Entries {
     pub held: [u8; 24],
 }
 
-// What a delivery or a low-word write leaves at one pin, its low word and its held edge, and what it answers.
+/// What a delivery or a low-word write leaves at one pin, its low word and its held edge, and what it answers.
+// No Result: nothing is refused here, and `apply` stores what is decided without a look at the answer.
 #[derive(Clone, Copy)]
 pub struct EntryDecision {
     pub pin: usize,
@@ -37,7 +39,7 @@ pub struct EntryDecision {
     pub answer: Answer,
 }
 
-// What a change of a wire leaves at its pin.
+/// What a change of a wire leaves at its pin.
 #[derive(Clone, Copy)]
 pub struct WireDecision {
     pub pin: usize,

@@ -3,6 +3,7 @@ ghost use Rattle.std.specs.Prelude.{◌≡◌};
 ghost use Rattle.entries.specs.Table.{reset_entries, destination_at, ended, low_shown, high_shown, low_written, high_written};
 
 use crate::{Entries, EntryDecision, Low};
+use std::array;
 
 impl Entries {
     pub const PINS: usize = 24;
@@ -24,20 +25,10 @@ impl Entries {
     pub fn ended(self, vector: u8) -> Entries
         ensures { result ≡ ended self vector }
     {
-        let mut low = self.low;
-        let mut i: usize = 0;
-        while i < Entries::PINS {
-            low[i] = Low(low[i]).ended(vector);
-            i += 1;
-        }
-        let destination = self.destination;
-        let level = self.level;
-        let held = self.held;
+        let low = self.low;
         Entries {
-            low,
-            destination,
-            level,
-            held,
+            low: array::from_fn(|i| Low(low[i]).ended(vector)),
+            ..self
         }
     }
 
@@ -47,7 +38,7 @@ impl Entries {
         ensures { result ≡ destination_at self n }
     {
         let destination = self.destination;
-        if n < Entries::PINS { destination[n] } else { 0 }
+        destination.get(n).copied().unwrap_or(0)
     }
 
     pub fn low_shown(self, n: usize) -> u32
@@ -69,6 +60,7 @@ impl Entries {
         (self.destination_at(n) as u32) << Entries::DESTINATION_AT
     }
 
+    // `n, value` stay two parameters, here and below: what is written and where, as specs/Table.antt#low_written says.
     pub fn low_written(self, n: usize, value: u32) -> Entries
         ensures { result ≡ low_written self n value }
     {
@@ -85,14 +77,9 @@ impl Entries {
         }
         let mut destination = self.destination;
         destination[n] = (value >> Entries::DESTINATION_AT) as u8;
-        let low = self.low;
-        let level = self.level;
-        let held = self.held;
         Entries {
-            low,
             destination,
-            level,
-            held,
+            ..self
         }
     }
 }

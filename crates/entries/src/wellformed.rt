@@ -10,10 +10,8 @@ impl Entries {
         ensures { result ≡ words_ok low }
     {
         let mut ok = true;
-        let mut i: usize = 0;
-        while i < Entries::PINS {
-            ok = ok & Low(low[i]).word_ok();
-            i += 1;
+        for word in low {
+            ok &= Low(word).word_ok();
         }
         ok
     }
@@ -23,15 +21,14 @@ impl Entries {
         ensures { result ≡ edges_ok low held }
     {
         let mut ok = true;
-        let mut i: usize = 0;
-        while i < Entries::PINS {
-            ok = ok & (held[i] <= (!Low(low[i]).is_level()) as u8);
-            i += 1;
+        for i in 0..Entries::PINS {
+            ok &= held[i] <= (!Low(low[i]).is_level()) as u8;
         }
         ok
     }
 
-    // A test of its own for each kind of part, so that each loop is worked out in vectors of one width.
+    /// A test of its own for each kind of part, so that each loop is worked out in vectors of one width.
+    // `&=` and no `all`: a loop that may end early is not worked out in vectors.
     pub fn well_formed(self) -> bool
         ensures { result ≡ entries_ok self }
     {
@@ -45,10 +42,8 @@ impl Entries {
         ensures { result ≡ levels_ok levels }
     {
         let mut ok = true;
-        let mut i: usize = 0;
-        while i < Entries::PINS {
-            ok = ok & (levels[i] <= 1);
-            i += 1;
+        for level in levels {
+            ok &= level <= 1;
         }
         ok
     }

@@ -5,6 +5,7 @@ ghost use Rattle.entries.specs.Inner.{edge_pins, active_lows};
 
 use crate::pin::held_by;
 use crate::{Entries, Low};
+use std::array;
 
 impl Entries {
     // Which pins take edges, and which are active low, a byte each: the words are taken apart in vectors of their own
@@ -12,25 +13,13 @@ impl Entries {
     fn edge_pins(low: [u32; 24]) -> [u8; 24]
         ensures { result ≡ edge_pins low }
     {
-        let mut edges: [u8; 24] = [0; 24];
-        let mut i: usize = 0;
-        while i < Entries::PINS {
-            edges[i] = Low(low[i]).takes_edges() as u8;
-            i += 1;
-        }
-        edges
+        array::from_fn(|i| Low(low[i]).takes_edges() as u8)
     }
 
     fn active_lows(low: [u32; 24]) -> [u8; 24]
         ensures { result ≡ active_lows low }
     {
-        let mut lows: [u8; 24] = [0; 24];
-        let mut i: usize = 0;
-        while i < Entries::PINS {
-            lows[i] = Low(low[i]).active_low();
-            i += 1;
-        }
-        lows
+        array::from_fn(|i| Low(low[i]).active_low())
     }
 
     pub fn wired(self, levels: [u8; 24]) -> Entries
@@ -40,18 +29,11 @@ impl Entries {
         let level = self.level;
         let edges = Entries::edge_pins(low);
         let lows = Entries::active_lows(low);
-        let mut held = self.held;
-        let mut i: usize = 0;
-        while i < Entries::PINS {
-            held[i] = held_by(edges[i], lows[i], level[i], levels[i], held[i]);
-            i += 1;
-        }
-        let destination = self.destination;
+        let held = self.held;
         Entries {
-            low,
-            destination,
             level: levels,
-            held,
+            held: array::from_fn(|i| held_by(edges[i], lows[i], level[i], levels[i], held[i])),
+            ..self
         }
     }
 }

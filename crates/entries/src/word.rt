@@ -6,6 +6,7 @@ use crate::Low;
 
 impl Low {
     // ---- its bits, in the order of the paper's table
+    // Numbers, and no enum: a name with `_AT` is the place that a word is shifted by, any other a mask of bits.
 
     // 7:0 vector, writable
     pub const VECTOR: u32 = 0xff;
@@ -46,6 +47,7 @@ impl Low {
         (self.0 & Low::VECTOR) as u8
     }
 
+    #[tactic(auto, unfolding(crate::specs::Word::mode_of))]
     pub fn mode(self) -> u32
         ensures { result ≡ mode_of self.0 }
     {
@@ -72,18 +74,21 @@ impl Low {
         self.bit(Low::ACTIVE_LOW_AT)
     }
 
+    #[tactic(auto, unfolding(crate::specs::Word::remote_of))]
     pub fn is_remote(self) -> bool
         ensures { result ≡ remote_of self.0 }
     {
         self.bit(Low::REMOTE_AT) == 1
     }
 
+    #[tactic(auto, unfolding(crate::specs::Word::level_of))]
     pub fn is_level(self) -> bool
         ensures { result ≡ level_of self.0 }
     {
         self.bit(Low::LEVEL_AT) == 1
     }
 
+    #[tactic(auto, unfolding(crate::specs::Word::masked_of))]
     pub fn is_masked(self) -> bool
         ensures { result ≡ masked_of self.0 }
     {
@@ -102,8 +107,8 @@ impl Low {
         self.0 & Low::NOT_REMOTE
     }
 
-    // The word after a write: the value's writable bits. Remote IRR is 0 if they leave the entry edge, and as it was if
-    // they leave it level.
+    /// The word after a write: the value's writable bits. Remote IRR is 0 if they leave the entry edge, and as it was
+    /// if they leave it level.
     pub fn written(self, value: u32) -> u32
         ensures { result ≡ written self.0 value }
     {
@@ -125,8 +130,8 @@ impl Low {
         }
     }
 
-    // Bit 15, moved to 14's place, takes 14 out of the mask: a level entry may have remote IRR. With a test of its own
-    // for it a short call was a third longer (docs/BENCHMARKS.md).
+    /// Bit 15, moved to 14's place, takes 14 out of the mask: a level entry may have remote IRR. With a test of its own
+    /// for it a short call was a third longer (docs/BENCHMARKS.md).
     pub fn word_ok(self) -> bool
         ensures { result ≡ word_ok self.0 }
     {

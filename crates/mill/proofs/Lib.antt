@@ -1,4 +1,3 @@
-pub mod Moves
 pub mod Fits
 pub mod Rests
 pub mod Served

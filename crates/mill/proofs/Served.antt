@@ -2,7 +2,6 @@
 use Prim.Native.Nat.{ℕ}
 use mathlib.Core.Path.{◌≡◌, refl, sym, ap, ◌∙◌}
 use mathlib.Core.Bool.{Bool, true, false, cond, ◌||◌}
-use Rattle.answers.specs.declared.Answer.{Answer}
 use Rattle.answers.specs.declared.Answer.TheVariants as answer
 use Rattle.answers.specs.declared.Refusal.TheVariants as refusal
 use Rattle.pins.proofs.Bools.{and_left, and_right}
@@ -12,12 +11,14 @@ use Rattle.board.specs.declared.Call.TheVariants as call
 use Rattle.board.specs.declared.Turn.{Turn}
 use Rattle.board.specs.Step.{formed}
 use Rattle.board.specs.Step.{turn_of as board_turn, served_of as board_served}
-use Rattle.board.specs.Events.{Event, other, delivery, delivery_of, is_reset, event_of}
+use Rattle.board.specs.Events.{Event, other, is_reset, event_of}
 use Rattle.board.proofs.Keeps.{served}
 use Rattle.board.proofs.Leaves.{read-leaves}
 use Rattle.settings.specs.declared.Settings.{Settings}
 use Rattle.settings.specs.Settings.{in_range}
-use Rattle.board.proofs.Served.{reset-done, reset-refused}
+use Rattle.board.proofs.Served.{reset-done, reset-refused, served-read, served-write, served-wire, served-end, served-advance, served-deliver, ending-done}
+use Rattle.board.proofs.Formed.{formed-in}
+use Rattle.board.proofs.At.{wiring-at, advancing-at}
 use Rattle.mill.specs.declared.Screen.{Screen}
 use Rattle.mill.specs.declared.Mill.{Mill}
 use Rattle.mill.specs.declared.MillCall.{MillCall}
@@ -128,11 +129,8 @@ module _ (m : Mill) where
     unfolding turn_of served_of
     reset-rejected e = ap (λ (u : Turn). rejected m (call.Reset z) u (by_board m.screen (call.Reset z) u)) (reset-refused m.board z e)
 
--- a delivery step's turn by what it gave
-module _ (s : Screen) (t : Turn) where
-  pub given_by :
-      (p v d l : ℕ) (x : Screen) → t.answer ≡ answer.Interrupt p v d l → x ≡ shown_after s (held_of t.board) (delivery p v) →
-      turn (mill t.board x) (answer.Interrupt p v d l) ≡ by_event s t (delivery_of t.answer)
-  given_by p v d l x e f =
-      ap (λ (y : Screen). turn (mill t.board y) (answer.Interrupt p v d l)) f
-      ∙ ap (λ (a : Answer). turn (mill t.board (shown_after s (held_of t.board) (delivery_of a))) a) (sym e)
+-- a reset, in range and out of it
+pub ruleset resets = (reset-served, reset-rejected)
+
+-- what the code of each call of the board gives
+pub ruleset board_calls = (by-served, read-served, board-formed, served-read, served-write, served-wire, served-end, served-advance, served-deliver, ending-done, formed-in, wiring-at, advancing-at)

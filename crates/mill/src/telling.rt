@@ -1,59 +1,53 @@
 // The screen's own calls: telling it its pause pin, and resuming.
 ghost use Rattle.std.specs.Prelude.{◌≡◌};
 ghost use Rattle.mill.specs.declared.MillCall.TheVariants as millcall;
-ghost use Rattle.mill.specs.Mill.{telling_of, resuming_of, turn_of};
+ghost use Rattle.mill.specs.Mill.{looked_at, telling_of, resuming_of, turn_of};
 
 use crate::words::holds;
-use crate::{Mill, MillTurn, Screen};
+use crate::{Mill, MillCall, MillTurn, Screen};
 use answers::{Answer, Refusal};
 use controller::Controller;
 use entries::Low;
 
 impl Mill {
-    fn telling(self, pin: u64) -> MillTurn
+    /// A look at a pin: whether it holds an edge decides between asked and running.
+    fn looked_at(self, pin: u16) -> Mill
+        ensures { result ≡ looked_at self pin }
+    {
+        Mill {
+            screen: Screen::looked(pin, holds(self.board.controller.entries.held, pin)),
+            ..self
+        }
+    }
+
+    #[tactic(auto, unfolding(crate::specs::Mill::telling_of))]
+    pub(crate) fn telling(self, pin: u64) -> MillTurn
         ensures { result ≡ telling_of self pin }
     {
         if Controller::PINS <= pin {
             return self.refused(Refusal::Pin);
         }
-        let b = self.board;
-        let c = b.controller;
-        let entries = c.entries;
-        let low = entries.low;
-        let held = entries.held;
-        let word = Low(low[pin as usize]);
-        if word.is_level() {
+        let low = self.board.controller.entries.low;
+        if Low(low[pin as usize]).is_level() {
             return self.refused(Refusal::NotEdge);
         }
-        let n = pin as u16;
         MillTurn {
-            mill: Mill {
-                board: b,
-                screen: Screen::looked(n, holds(held, n)),
-            },
+            mill: self.looked_at(pin as u16),
             answer: Answer::Done,
         }
     }
 
-    fn resuming(self) -> MillTurn
+    /// A resume takes effect in paused alone.
+    #[tactic(auto, unfolding(crate::specs::Mill::resuming_of))]
+    pub(crate) fn resuming(self) -> MillTurn
         ensures { result ≡ resuming_of self }
     {
-        let s = self.screen;
-        if s.word == Screen::PAUSED {
-            let b = self.board;
-            let c = b.controller;
-            let entries = c.entries;
-            let held = entries.held;
-            return MillTurn {
-                mill: Mill {
-                    board: b,
-                    screen: Screen::looked(s.pin, holds(held, s.pin)),
-                },
-                answer: Answer::Done,
-            };
-        }
         MillTurn {
-            mill: self,
+            mill: if self.screen.word == Screen::PAUSED {
+                self.looked_at(self.screen.pin)
+            } else {
+                self
+            },
             answer: Answer::Done,
         }
     }
@@ -61,20 +55,12 @@ impl Mill {
     pub fn tell(self, pin: u64) -> MillTurn
         ensures { result ≡ turn_of self (millcall.Tell pin) }
     {
-        if self.well_formed() {
-            self.telling(pin)
-        } else {
-            self.refused(Refusal::State)
-        }
+        self.step(MillCall::Tell { pin })
     }
 
     pub fn resume(self) -> MillTurn
         ensures { result ≡ turn_of self millcall.Resume }
     {
-        if self.well_formed() {
-            self.resuming()
-        } else {
-            self.refused(Refusal::State)
-        }
+        self.step(MillCall::Resume)
     }
 }

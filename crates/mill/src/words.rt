@@ -4,20 +4,16 @@ ghost use Rattle.board.specs.Events.{other, delivery, end};
 ghost use Rattle.mill.specs.Screen.{blank, holds_in, looked_of, shown_after, fits};
 
 use crate::Screen;
-use entries::Entries;
 
-// Whether a pin holds an edge; there is no pin above 23.
+/// Whether a pin holds an edge; there is no pin above 23.
 pub(crate) fn holds(held: [u8; 24], pin: u16) -> bool
     ensures { result ≡ holds_in held pin }
 {
-    let n = pin as usize;
-    if n < Entries::PINS {
-        return held[n] == 1;
-    }
-    false
+    held.get(pin as usize) == Some(&1)
 }
 
 impl Screen {
+    // Numbers, and no enum: `Screen::word` is lent memory, and any number may stand there.
     pub const RUNNING: u16 = 0;
 
     pub const ASKED: u16 = 1;
@@ -26,7 +22,7 @@ impl Screen {
 
     pub const PAUSED: u16 = 3;
 
-    // Before a telling and after a board reset.
+    /// Before a telling and after a board reset.
     pub(crate) fn blank() -> Screen
         ensures { result ≡ blank }
     {
@@ -38,66 +34,68 @@ impl Screen {
         }
     }
 
-    // Told a pin, or resumed in paused.
+    /// Told a pin, or resumed in paused.
+    #[tactic(auto, unfolding(crate::specs::Screen::looked_of))]
     pub(crate) fn looked(pin: u16, held: bool) -> Screen
         ensures { result ≡ looked_of pin held }
     {
-        if held {
-            return Screen {
-                told: 1,
-                pin,
-                word: Screen::ASKED,
-                vector: 0,
-            };
-        }
         Screen {
             told: 1,
             pin,
-            word: Screen::RUNNING,
+            word: if held { Screen::ASKED } else { Screen::RUNNING },
             vector: 0,
         }
     }
 
-    // After a call that was neither a delivery nor an end of interrupt.
+    /// After a call that was neither a delivery nor an end of interrupt.
+    #[tactic(auto, unfolding(crate::specs::Screen::shown_after, crate::specs::Screen::moved_of))]
     pub(crate) fn seen(self, held: [u8; 24]) -> Screen
         ensures { result ≡ shown_after self held other }
     {
         let asks = (self.told == 1) & (self.word == Screen::RUNNING);
-        let mut next = self;
         if asks & holds(held, self.pin) {
-            next.word = Screen::ASKED;
+            Screen {
+                word: Screen::ASKED,
+                ..self
+            }
+        } else {
+            self
         }
-        next
     }
 
-    // After a delivery.
+    /// After a delivery.
+    #[tactic(auto, unfolding(crate::specs::Screen::shown_after, crate::specs::Screen::moved_of))]
     pub(crate) fn given(self, held: [u8; 24], pin: u8, vector: u8) -> Screen
         ensures { result ≡ shown_after self held (delivery pin vector) }
     {
         let waits = (self.told == 1) & (self.word == Screen::ASKED);
         if waits & (pin as u16 == self.pin) {
-            let mut next = self;
-            next.word = Screen::TAKEN;
-            next.vector = vector as u16;
-            return next;
+            return Screen {
+                word: Screen::TAKEN,
+                vector: vector as u16,
+                ..self
+            };
         }
         self.seen(held)
     }
 
-    // After an end of interrupt.
+    /// After an end of interrupt.
+    #[tactic(auto, unfolding(crate::specs::Screen::shown_after, crate::specs::Screen::moved_of))]
     pub(crate) fn ended(self, held: [u8; 24], vector: u8) -> Screen
         ensures { result ≡ shown_after self held (end vector) }
     {
         let serves = (self.told == 1) & (self.word == Screen::TAKEN);
         if serves & (vector as u16 == self.vector) {
-            let mut next = self;
-            next.word = Screen::PAUSED;
-            return next;
+            return Screen {
+                word: Screen::PAUSED,
+                ..self
+            };
         }
         self.seen(held)
     }
 
-    // Well formed beside a board that holds these edges.
+    /// Well formed beside a board that holds these edges.
+    #[tactic(auto, unfolding(crate::specs::Screen::fits))]
     pub(crate) fn fits(self, held: [u8; 24]) -> bool
         ensures { result ≡ fits self held }
     {

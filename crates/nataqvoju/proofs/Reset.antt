@@ -6,7 +6,6 @@ use Prim.Native.Nat.{ℕ}
 use Rattle.answers.proofs.Done.{NotRefused, is-done}
 use Rattle.answers.specs.declared.Answer.{Answer}
 use Rattle.answers.specs.declared.Answer.TheVariants as answer
-use Rattle.answers.specs.declared.Refusal.{Refusal}
 use Rattle.answers.specs.declared.Numbers.{Numbers}
 use Rattle.answers.specs.Numbers.{is_done, bare, numbers_of}
 use Rattle.settings.specs.declared.Settings.{Settings}
@@ -18,7 +17,7 @@ use Rattle.settings.proofs.RoundTrip.{read-record}
 use Rattle.board.specs.declared.Board.{Board}
 use Rattle.board.specs.declared.Call.TheVariants as call
 use Rattle.board.specs.declared.Turn.{Turn}
-use Rattle.board.specs.State.{turn, refused, reset_to}
+use Rattle.board.specs.State.{turn, reset_to}
 use Rattle.board.specs.Step.{resetting_of, turn_of}
 use Rattle.board.proofs.Served.{turn-reset, reset-done}
 use Rattle.nataqvoju.specs.Lent.{Gives}
@@ -31,9 +30,6 @@ module _ (b : Board) (r : Reading) where
   -- the two arms of the test, with the test's outcome
   abbrev either : Bool → Answer → Turn
   either d a = cond d (turn_of b (call.Reset r.settings)) (turn b a)
-
-  pub with-refused : (x : Refusal) → r.answer ≡ answer.Refused x → refused b x ≡ reset_with b r
-  with-refused x e = sym (ap (λ (a : Answer). either (is_done a) a) e)
 
   pub with-other :
       NotRefused r.answer →

@@ -1,5 +1,5 @@
 -- What an entry gives, in its two cases: on a board that its call takes what the call does, on another the refusal 5.
-use mathlib.Core.Path.{◌≡◌, refl, sym, ap, ◌∙◌}
+use mathlib.Core.Path.{◌≡◌, sym, ap, ◌∙◌}
 use mathlib.Core.Bool.{true, false}
 use Rattle.answers.specs.declared.Answer.{Answer}
 use Rattle.answers.specs.declared.Answer.TheVariants as answer
@@ -12,8 +12,7 @@ use Rattle.board.specs.declared.Turn.{Turn}
 use Rattle.board.specs.State.{turn}
 use Rattle.board.specs.Step.{turn_of, takes, served_of}
 use Rattle.board.proofs.Served.{turn-served, turn-refused}
-use Rattle.nataqvoju.specs.declared.Out.{Out}
-use Rattle.nataqvoju.specs.Lent.{out_of, Gives}
+use Rattle.nataqvoju.specs.Lent.{Gives}
 
 -- a board and an answer that are a turn, with the answer as numbers
 pub turn-gives : (t : Turn) (b : Board) (a : Answer) (n : Numbers) → turn b a ≡ t → n ≡ numbers_of a → Gives t b n
@@ -24,10 +23,6 @@ pub served : (b : Board) (c : Call) (t : Turn) (d : Board) (r : Numbers) → tak
 served b c t d r w e g =
     let is : t ≡ turn_of b c = sym (turn-served b c w ∙ e) in
     (g.0 ∙ ap (λ (u : Turn). u.board) is, g.1 ∙ ap (λ (u : Turn). numbers_of u.answer) is)
-
--- as a board and numbers
-pub gives : (b : Board) (c : Call) (o : Out) → takes b c ≡ true → o ≡ out_of (served_of b c) → Gives (turn_of b c) o.board o.numbers
-gives b c o w e = served b c (served_of b c) o.board o.numbers w refl (ap (λ (r : Out). r.board) e, ap (λ (r : Out). r.numbers) e)
 
 -- and where it does not take it
 pub refuses : (b : Board) (c : Call) (r : Numbers) → takes b c ≡ false → r ≡ numbers_of (answer.Refused refusal.State) → Gives (turn_of b c) b r

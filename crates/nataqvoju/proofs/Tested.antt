@@ -56,8 +56,8 @@ use Rattle.board.specs.contracts.Board as T
 use Rattle.board.proofs.Board.TheLaws as T'
 use Rattle.nataqvoju.specs.contracts.formed as test
 use Rattle.nataqvoju.proofs.formed.Symbol.{name as #nataqvoju·formed}
-use Rattle.nataqvoju.specs.contracts.calls.refused as no
-use Rattle.nataqvoju.proofs.calls.refused.Symbol.{name as #nataqvoju·calls·refused}
+use Rattle.nataqvoju.specs.contracts.refused as no
+use Rattle.nataqvoju.proofs.refused.Symbol.{name as #nataqvoju·refused}
 
 -- the state's machine value
 abbrev pub mach : Board → Val
@@ -161,9 +161,9 @@ module _ {M : Type 1} {𝓤 : Ura M} {𝓛 : Logic 𝓤} {K : Type 0} {Γ : List
         split t $ move t (1 ∷ []) $ drop t $
         regoal t (λ (u : Val). lands C Λ E d u rest q) (ap only is ∙ ap vbool e) refl $ goes_on)))))
 
-    pub turns : K → FmC 𝓤 H 𝓛.laws C → (at_mem : Memory → SProp 𝓤) (run : Routine → Fun 𝓤) → Triple 𝓤 (C #nataqvoju·calls·refused) (No 𝓛 at_mem run) → {d : Place} {rest : Code}
+    pub turns : K → FmC 𝓤 H 𝓛.laws C → (at_mem : Memory → SProp 𝓤) (run : Routine → Fun 𝓤) → Triple 𝓤 (C #nataqvoju·refused) (No 𝓛 at_mem run) → {d : Place} {rest : Code}
         → ((r : Numbers) (v : Val) → r ≡ numbers_of (answer.Refused refusal.State) → Is R.the_row r (v ∷ []) → Seq K 𝓛 (‵ ((R.the_row).own_val r (v ∷ [])) ∷ Γ) (lands C Λ E d v rest q))
-        → Seq K 𝓛 Γ (runs C Λ E (seq (call #nataqvoju·calls·refused [] d) rest) q)
+        → Seq K 𝓛 Γ (runs C Λ E (seq (call #nataqvoju·refused [] d) rest) q)
     turns t fm at_mem run known k =
         use0 𝓛 (raw ((No 𝓛 at_mem run).pre (to-no 𝓛 at_mem run))) (goes-no 𝓛 at_mem run) $
         calls_at t fm (No 𝓛 at_mem run) known (to-no 𝓛 at_mem run) (no_more t) (λ v.

@@ -4,11 +4,6 @@ use Rattle.answers.specs.declared.Numbers.{Numbers}
 use Rattle.answers.specs.Numbers.{numbers_of}
 use Rattle.board.specs.declared.Board.{Board}
 use Rattle.board.specs.declared.Turn.{Turn}
-use Rattle.nataqvoju.specs.declared.Out.{Out}
-
--- a turn with its answer as numbers
-abbrev pub out_of : Turn → Out
-out_of t = record { board = t.board; numbers = numbers_of t.answer }
 
 -- the lent board is left as the turn's, and the numbers are those of its answer
 abbrev pub Gives : Turn → Board → Numbers → Type 0

@@ -7,62 +7,71 @@
 mod calls;
 
 ghost use Rattle.std.specs.Prelude.{◌≡◌};
+ghost use Rattle.answers.specs.declared.Answer.TheVariants as answer;
+ghost use Rattle.answers.specs.declared.Refusal.TheVariants as refusal;
+ghost use Rattle.answers.specs.Numbers.{numbers_of};
 ghost use Rattle.board.specs.declared.Call.TheVariants as call;
 ghost use Rattle.board.specs.Formed.{well_formed};
 ghost use Rattle.board.specs.Step.{plain_reset, turn_of};
 ghost use Rattle.nataqvoju.specs.Lent.{Gives};
 ghost use Rattle.nataqvoju.specs.Reset.{reset_by};
 
-use answers::Numbers;
-use board::Board;
-use entries::Entries;
+use answers::{Answer, Numbers, Refusal};
+use board::{Board, Turn};
+use settings::Settings;
 
-#[derive(Clone, Copy)]
-pub struct Out {
-    pub board: Board,
-    pub numbers: Numbers,
-}
-
-// Whether the lent board is well formed, tested where it lies: by value it would be copied first.
+/// Whether the lent board is well formed, tested where it lies: by value it would be copied first.
 fn formed(b: &Board) -> bool
     ensures { result ≡ well_formed b.now }
 {
-    let s = *b;
-    s.well_formed()
+    b.well_formed()
 }
 
-// As in document 01, whatever was there.
+/// The numbers of refusal 5.
+// Each call tests the board for itself, in the same two lines: a closure for what is served would take the lent board,
+// of which three calls lend single arrays on.
+fn refused() -> Numbers
+    ensures { result ≡ numbers_of (answer.Refused refusal.State) }
+{
+    Numbers::from(Answer::Refused(Refusal::State))
+}
+
+/// The lent board is left as the turn's, and the numbers are those of its answer.
+fn left(b: &mut Board, turn: Turn) -> Numbers
+    ensures { Gives turn b.new result }
+{
+    *b = turn.board;
+    Numbers::from(turn.answer)
+}
+
+/// As in document 01, whatever was there.
 #[unsafe(no_mangle)]
 pub extern "C" fn nataqvoju_reset(b: &mut Board) -> Numbers
     ensures { Gives (turn_of b.old plain_reset) b.new result }
 {
-    let s = *b;
-    let o = calls::reset(s);
-    *b = o.board;
-    o.numbers
+    *b = Board::reset();
+    Numbers::from(Answer::Done)
 }
 
-// By a lent settings record, whatever was there. A record that the reader refuses leaves the board.
+/// By a lent settings record, whatever was there. A record that the reader refuses leaves the board.
+#[tactic(auto, unfolding(crate::specs::Reset::reset_by))]
 #[unsafe(no_mangle)]
 pub extern "C" fn nataqvoju_reset_settings(b: &mut Board, bytes: &[u8]) -> Numbers
     ensures { Gives (reset_by b.old bytes.now) b.new result }
 {
-    let s = *b;
-    let o = calls::reset_settings(s, bytes);
-    *b = o.board;
-    o.numbers
+    let turn = calls::reset_with(*b, Settings::accepted(bytes));
+    left(b, turn)
 }
 
-// A read leaves the board, so it is lent to be looked at only.
+/// A read leaves the board, so it is lent to be looked at only.
 #[unsafe(no_mangle)]
 pub extern "C" fn nataqvoju_read(b: &Board, window: u64, width: u64, offset: u64) -> Numbers
     ensures { Gives (turn_of b.now (call.Read window width offset)) b.now result }
 {
-    if formed(b) {
-        let s = *b;
-        return calls::read(s, window, width, offset);
+    if !formed(b) {
+        return refused();
     }
-    calls::refused()
+    Numbers::from(b.reading(window, width, offset).answer)
 }
 
 #[unsafe(no_mangle)]
@@ -75,79 +84,72 @@ pub extern "C" fn nataqvoju_write(
 ) -> Numbers
     ensures { Gives (turn_of b.old (call.Write window width offset value)) b.new result }
 {
-    if formed(b) {
-        let n = Board::low_pin(b.controller.index, window, width, offset, value);
-        if n < Entries::PINS {
-            return calls::write_low(
-                n,
-                value,
-                &mut b.controller.entries.low,
-                &mut b.controller.entries.held,
-            );
-        }
-        let s = *b;
-        let o = calls::write(s, window, width, offset, value);
-        *b = o.board;
-        return o.numbers;
+    if !formed(b) {
+        return refused();
     }
-    calls::refused()
+    if let Some(n) = Board::low_pin(b.controller.index, window, width, offset, value) {
+        return calls::write_low(
+            n,
+            value,
+            &mut b.controller.entries.low,
+            &mut b.controller.entries.held,
+        );
+    }
+    let turn = b.writing(window, width, offset, value);
+    left(b, turn)
 }
 
 #[unsafe(no_mangle)]
 pub extern "C" fn nataqvoju_wire(b: &mut Board, pin: u64, level: u64) -> Numbers
     ensures { Gives (turn_of b.old (call.Wire pin level)) b.new result }
 {
-    if formed(b) {
-        let s = *b;
-        return calls::wire(
-            s,
-            pin,
-            level,
-            &mut b.controller.entries.level,
-            &mut b.controller.entries.held,
-            &mut b.outside,
-        );
+    if !formed(b) {
+        return refused();
     }
-    calls::refused()
+    let s = *b;
+    calls::wire(
+        s,
+        pin,
+        level,
+        &mut b.controller.entries.level,
+        &mut b.controller.entries.held,
+        &mut b.outside,
+    )
 }
 
 #[unsafe(no_mangle)]
 pub extern "C" fn nataqvoju_end(b: &mut Board, vector: u8) -> Numbers
     ensures { Gives (turn_of b.old (call.End vector)) b.new result }
 {
-    if formed(b) {
-        let s = *b;
-        let o = calls::end(s, vector);
-        *b = o.board;
-        return o.numbers;
+    if !formed(b) {
+        return refused();
     }
-    calls::refused()
+    let turn = b.ending(vector);
+    left(b, turn)
 }
 
 #[unsafe(no_mangle)]
 pub extern "C" fn nataqvoju_advance(b: &mut Board, ticks: u32) -> Numbers
     ensures { Gives (turn_of b.old (call.Advance ticks)) b.new result }
 {
-    if formed(b) {
-        let s = *b;
-        let o = calls::advance(s, ticks);
-        *b = o.board;
-        return o.numbers;
+    if !formed(b) {
+        return refused();
     }
-    calls::refused()
+    let turn = calls::advance(*b, ticks);
+    left(b, turn)
 }
 
 #[unsafe(no_mangle)]
 pub extern "C" fn nataqvoju_deliver(b: &mut Board) -> Numbers
     ensures { Gives (turn_of b.old call.Deliver) b.new result }
 {
-    if formed(b) {
-        let s = *b;
-        return calls::deliver(
-            s,
-            &mut b.controller.entries.low,
-            &mut b.controller.entries.held,
-        );
+    if !formed(b) {
+        return refused();
     }
-    calls::refused()
+    let s = *b;
+    calls::deliver(
+        s,
+        &mut b.controller.entries.low,
+        &mut b.controller.entries.held,
+    )
 }

@@ -1,2 +1,3 @@
 pub mod Decided
 pub mod Reset
+mod Named

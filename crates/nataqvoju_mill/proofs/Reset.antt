@@ -6,7 +6,6 @@ use Prim.Native.Nat.{ℕ}
 use Rattle.answers.proofs.Done.{NotRefused, is-done}
 use Rattle.answers.specs.declared.Answer.{Answer}
 use Rattle.answers.specs.declared.Answer.TheVariants as answer
-use Rattle.answers.specs.declared.Refusal.{Refusal}
 use Rattle.answers.specs.declared.Numbers.{Numbers}
 use Rattle.answers.specs.Numbers.{is_done, bare, numbers_of}
 use Rattle.settings.specs.declared.Settings.{Settings}
@@ -19,7 +18,7 @@ use Rattle.board.specs.declared.Call.TheVariants as call
 use Rattle.mill.specs.declared.Mill.{Mill}
 use Rattle.mill.specs.declared.MillCall.TheVariants as millcall
 use Rattle.mill.specs.declared.MillTurn.{MillTurn}
-use Rattle.mill.specs.Mill.{turn, refused, reset_to, reset_mill, turn_of}
+use Rattle.mill.specs.Mill.{turn, reset_to, reset_mill, turn_of}
 use Rattle.mill.proofs.Served.{reset-served}
 use Rattle.nataqvoju_mill.specs.Kinds.{called_of}
 use Rattle.nataqvoju_mill.specs.Lent.{Gives}
@@ -32,9 +31,6 @@ module _ (m : Mill) (r : Reading) where
   -- the two arms of the test, with the test's outcome
   abbrev either : Bool → Answer → MillTurn
   either d a = cond d (turn_of m (millcall.Board (call.Reset r.settings))) (turn m a)
-
-  pub with-refused : (x : Refusal) → r.answer ≡ answer.Refused x → refused m x ≡ reset_with m r
-  with-refused x e = sym (ap (λ (a : Answer). either (is_done a) a) e)
 
   pub with-other :
       NotRefused r.answer →

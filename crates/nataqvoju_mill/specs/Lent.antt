@@ -4,11 +4,6 @@ use Rattle.answers.specs.declared.Numbers.{Numbers}
 use Rattle.answers.specs.Numbers.{numbers_of}
 use Rattle.mill.specs.declared.Mill.{Mill}
 use Rattle.mill.specs.declared.MillTurn.{MillTurn}
-use Rattle.nataqvoju_mill.specs.declared.Out.{Out}
-
--- a turn with its answer as numbers
-abbrev pub out_of : MillTurn → Out
-out_of t = record { mill = t.mill; numbers = numbers_of t.answer }
 
 -- the lent mill is left as the turn's, and the numbers are those of its answer
 abbrev pub Gives : MillTurn → Mill → Numbers → Type 0

@@ -13,32 +13,34 @@ ghost use Rattle.nataqvoju_mill.specs.Lent.{Gives};
 ghost use Rattle.nataqvoju_mill.specs.Reset.{reset_by};
 
 use answers::Numbers;
-use mill::Mill;
+use board::CallNumbers;
+use mill::{Mill, MillTurn};
+use settings::Settings;
 
-#[derive(Clone, Copy)]
-pub struct Out {
-    pub mill: Mill,
-    pub numbers: Numbers,
+/// The lent mill is left as the turn's, and the numbers are those of its answer.
+// As `left` of nataqvoju, and not generic: a trait that `Turn` and `MillTurn` have in common would be longer.
+fn left(m: &mut Mill, turn: MillTurn) -> Numbers
+    ensures { Gives turn m.new result }
+{
+    *m = turn.mill;
+    Numbers::from(turn.answer)
 }
 
-// A call's kind, and the four numbers that go with it.
+/// A call's kind, and the four numbers that go with it.
 #[unsafe(no_mangle)]
 pub extern "C" fn nataqvoju_mill(m: &mut Mill, kind: u64, p: u64, q: u64, r: u64, s: u64) -> Numbers
     ensures { Gives (called_of m.old kind p q r s) m.new result }
 {
-    let n = *m;
-    let o = kinds::call(n, kind, p, q, r, s);
-    *m = o.mill;
-    o.numbers
+    let turn = kinds::call(*m, CallNumbers { kind, p, q, r, s });
+    left(m, turn)
 }
 
-// A reset by a lent settings record, whatever was there. A record that the reader refuses leaves the mill.
+/// A reset by a lent settings record, whatever was there. A record that the reader refuses leaves the mill.
+#[tactic(auto, unfolding(crate::specs::Reset::reset_by))]
 #[unsafe(no_mangle)]
 pub extern "C" fn nataqvoju_mill_reset_settings(m: &mut Mill, bytes: &[u8]) -> Numbers
     ensures { Gives (reset_by m.old bytes.now) m.new result }
 {
-    let n = *m;
-    let o = kinds::reset_settings(n, bytes);
-    *m = o.mill;
-    o.numbers
+    let turn = kinds::reset_with(*m, Settings::accepted(bytes));
+    left(m, turn)
 }

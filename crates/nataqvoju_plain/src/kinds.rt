@@ -1,39 +1,14 @@
 // A board's calls by value, each by the number of its kind in a log, all by the plain engine.
 ghost use Rattle.std.specs.Prelude.{◌≡◌};
+ghost use Rattle.board.specs.Numbers.{named_by};
 ghost use Rattle.board.specs.State.{refused as refused_turn};
-ghost use Rattle.nataqvoju_plain.specs.Lent.{out_of};
-ghost use Rattle.nataqvoju_plain.specs.Kinds.{unknown_of, called_of};
+ghost use Rattle.nataqvoju_plain.specs.Kinds.{called_of};
 
-use crate::Out;
 use answers::{Answer, Refusal};
-use board::{Board, Call, Turn};
+use board::{Board, Call, CallNumbers, Turn};
 use settings::Settings;
 
-const READ: u64 = 1;
-
-const WRITE: u64 = 2;
-
-const WIRE: u64 = 3;
-
-const END: u64 = 4;
-
-const ADVANCE: u64 = 5;
-
-const DELIVER: u64 = 6;
-
-const RESET: u64 = 7;
-
-fn out(turn: Turn) -> Out
-    ensures { result ≡ out_of turn }
-{
-    let board = turn.board;
-    let answer = turn.answer;
-    Out {
-        board,
-        numbers: answer.numbers(),
-    }
-}
-
+// Not the board's own: the plain engine's library shares no code with it.
 fn refused(b: Board, refusal: Refusal) -> Turn
     ensures { result ≡ refused_turn b refusal }
 {
@@ -43,58 +18,53 @@ fn refused(b: Board, refusal: Refusal) -> Turn
     }
 }
 
-// No call has this kind.
-fn unknown(b: Board) -> Turn
-    ensures { result ≡ unknown_of b }
+/// The call that the numbers are.
+// Not the board's `Call::try_from`: a test bench sets this library beside the board's own entries, so it reads a call's
+// numbers by code of its own.
+#[tactic(auto, unfolding(board::specs::Numbers::named_by))]
+fn named(numbers: CallNumbers) -> Result<Call, Refusal>
+    ensures { result ≡ named_by numbers }
 {
-    if plain::well_formed(b) {
-        refused(b, Refusal::Kind)
-    } else {
-        refused(b, Refusal::State)
+    let CallNumbers { kind, p, q, r, s } = numbers;
+    match kind {
+        1 => Ok(Call::Read {
+            window: p,
+            width: q,
+            offset: r,
+        }),
+        2 => Ok(Call::Write {
+            window: p,
+            width: q,
+            offset: r,
+            value: s,
+        }),
+        3 => Ok(Call::Wire { pin: p, level: q }),
+        4 => Ok(Call::End {
+            vector: (p % 256) as u8,
+        }),
+        5 => Ok(Call::Advance {
+            ticks: (p % 4294967296) as u32,
+        }),
+        6 => Ok(Call::Deliver),
+        7 => Ok(Call::Reset {
+            settings: Settings::standard(),
+        }),
+        _ => Err(Refusal::Kind),
     }
 }
 
-pub fn call(b: Board, kind: u64, p: u64, q: u64, r: u64, s: u64) -> Out
-    ensures { result ≡ out_of (called_of b kind p q r s) }
+/// Refusal 5 is tested first, for an unknown kind too.
+pub fn call(b: Board, numbers: CallNumbers) -> Turn
+    ensures { result ≡ called_of b numbers.kind numbers.p numbers.q numbers.r numbers.s }
 {
-    if kind == READ {
-        return out(plain::step(
-            b,
-            Call::Read {
-                window: p,
-                width: q,
-                offset: r,
-            },
-        ));
+    match named(numbers) {
+        Ok(call) => plain::step(b, call),
+        Err(refusal) => {
+            if plain::well_formed(b) {
+                refused(b, refusal)
+            } else {
+                refused(b, Refusal::State)
+            }
+        }
     }
-    if kind == WRITE {
-        return out(plain::step(
-            b,
-            Call::Write {
-                window: p,
-                width: q,
-                offset: r,
-                value: s,
-            },
-        ));
-    }
-    if kind == WIRE {
-        return out(plain::step(b, Call::Wire { pin: p, level: q }));
-    }
-    if kind == END {
-        let vector = (p % 256) as u8;
-        return out(plain::step(b, Call::End { vector }));
-    }
-    if kind == ADVANCE {
-        let ticks = (p % 4294967296) as u32;
-        return out(plain::step(b, Call::Advance { ticks }));
-    }
-    if kind == DELIVER {
-        return out(plain::step(b, Call::Deliver));
-    }
-    if kind == RESET {
-        let settings = Settings::standard();
-        return out(plain::step(b, Call::Reset { settings }));
-    }
-    out(unknown(b))
 }

@@ -12,15 +12,9 @@ ghost use Rattle.nataqvoju_plain.specs.Kinds.{called_of};
 ghost use Rattle.nataqvoju_plain.specs.Lent.{Gives};
 
 use answers::Numbers;
-use board::Board;
+use board::{Board, CallNumbers};
 
-#[derive(Clone, Copy)]
-pub struct Out {
-    pub board: Board,
-    pub numbers: Numbers,
-}
-
-// A call's kind, and the four numbers that go with it.
+/// A call's kind, and the four numbers that go with it.
 #[unsafe(no_mangle)]
 pub extern "C" fn nataqvoju_plain(
     b: &mut Board,
@@ -32,8 +26,7 @@ pub extern "C" fn nataqvoju_plain(
 ) -> Numbers
     ensures { Gives (called_of b.old kind p q r s) b.new result }
 {
-    let n = *b;
-    let o = kinds::call(n, kind, p, q, r, s);
-    *b = o.board;
-    o.numbers
+    let turn = kinds::call(*b, CallNumbers { kind, p, q, r, s });
+    *b = turn.board;
+    Numbers::from(turn.answer)
 }

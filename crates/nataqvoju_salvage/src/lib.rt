@@ -8,6 +8,7 @@ ghost use Rattle.salvage.specs.Told.{numbers_of};
 
 use salvage::SalvagedNumbers;
 
+/// Keeps the records of a log at the start of kept, and lists each skipped stretch at the start of list.
 #[unsafe(no_mangle)]
 pub extern "C" fn nataqvoju_salvage(
     log: &[u8],
@@ -16,6 +17,5 @@ pub extern "C" fn nataqvoju_salvage(
 ) -> SalvagedNumbers
     ensures { (result ≡ numbers_of (salvaged_of log.now kept.old list.old)) × (kept.new ≡ kept_after log.now kept.old list.old) × (list.new ≡ list_after log.now kept.old list.old) }
 {
-    let salvaged = salvage::salvage(log, kept, list);
-    salvaged.numbers()
+    SalvagedNumbers::from(salvage::salvage(log, kept, list))
 }

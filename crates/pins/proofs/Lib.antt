@@ -6,3 +6,4 @@ pub mod Fill
 pub mod Every
 pub mod Digits
 pub mod Store
+pub mod PinAt

@@ -1,6 +1,6 @@
 -- Functions of the 24 pins, by their numbers: tables, the first pin where a test holds, the test at every pin, the pins
 -- as one number.
-use Rattle.std.specs.Prelude.{ℕ, zero, suc, ◌+◌, ◌*◌, Bool, true, cond, ◌&&◌, List, [], ◌∷◌}
+use Rattle.std.specs.Prelude.{ℕ, zero, suc, ◌+◌, ◌*◌, Bool, true, cond, ◌&&◌, List, [], ◌∷◌, ltb, Option, Some, None}
 use mir.Val.{bool_byte}
 
 -- the values of f at `at` and the n - 1 numbers after it
@@ -35,3 +35,7 @@ every p = all_from p 0 24
 
 abbrev pub bits_of : (ℕ → Bool) → ℕ
 bits_of p = bits_from p 0 24
+
+-- a pin, or none, by its number; 24 and any greater number is none
+abbrev pub pin_at : ℕ → Option ℕ
+pin_at n = cond (ltb n 24) (Some n) None

@@ -1,10 +1,8 @@
 // Every call. "Refusal 5 is tested first"; "A reset takes any state and tests only 10, never 5; …" (K6)
+// Functions and no methods of a board: `Board` is another crate's type.
 ghost use Rattle.std.specs.Prelude.{◌≡◌};
-ghost use Rattle.board.specs.declared.Call.TheVariants as call;
 ghost use Rattle.settings.specs.Settings.{in_range};
-ghost use Rattle.controller.specs.Window.{reading_of as controller_reading, writing_of as controller_writing};
-ghost use Rattle.timers.specs.Call.{reading_of as timers_reading, writing_of as timers_writing};
-ghost use Rattle.board.specs.State.{reset_to, turn};
+ghost use Rattle.board.specs.State.{reset_to};
 ghost use Rattle.board.specs.State.{refused as refused_turn};
 ghost use Rattle.board.specs.Step.{by_controller, by_timers};
 ghost use Rattle.board.specs.Step.{takes as taken_by};
@@ -27,88 +25,62 @@ fn refused(b: Board, refusal: Refusal) -> Turn
     }
 }
 
+// What the controller did, as the board's turn: a call of the controller moves no wire.
+fn by_controller(b: Board, t: controller::Turn) -> Turn
+    ensures { result ≡ by_controller b t }
+{
+    Turn {
+        board: Board {
+            controller: t.controller,
+            ..b
+        },
+        answer: t.answer,
+    }
+}
+
+// What a write did to the timers, as the board's turn. A timer register may move a wire, and one of the "Mistakes we
+// have made already" is "Letting a register write that changes a level timer's wire pass without an edge."
+fn by_timers(b: Board, t: timers::Turn) -> Turn
+    ensures { result ≡ by_timers b t }
+{
+    Turn {
+        board: joined(b.controller, t.timers, b.outside),
+        answer: t.answer,
+    }
+}
+
 // A read. "An access then tests 1 for an unknown window, …"; "window (0 controller, 1 timers)".
+#[tactic(auto, unfolding(board::specs::Step::reading_of))]
 fn reading(b: Board, window: u64, width: u64, offset: u64) -> Turn
     ensures { result ≡ reading_of b window width offset }
 {
     match window {
-        0 => controller_reading(b, width, offset),
-        1 => timers_reading(b, width, offset),
+        0 => by_controller(b, plain_controller::reading(b.controller, width, offset)),
+        1 => Turn {
+            board: b,
+            answer: plain_timers::reading(b.timers, width, offset).answer,
+        },
         _ => refused(b, Refusal::Window),
     }
 }
 
-// A read in window 0: the controller answers.
-fn controller_reading(b: Board, width: u64, offset: u64) -> Turn
-    ensures { result ≡ by_controller b (controller_reading b.controller width offset) }
-{
-    let c = b.controller;
-    let t = plain_controller::reading(c, width, offset);
-    let controller = t.controller;
-    let answer = t.answer;
-    let mut next = b;
-    next.controller = controller;
-    Turn {
-        board: next,
-        answer,
-    }
-}
-
-// A read in window 1: the timer block answers, and the board stays as it was.
-fn timers_reading(b: Board, width: u64, offset: u64) -> Turn
-    ensures { result ≡ turn b (timers_reading b.timers width offset).answer }
-{
-    let s = b.timers;
-    let t = plain_timers::reading(s, width, offset);
-    let answer = t.answer;
-    Turn { board: b, answer }
-}
-
 // A write. "An access then tests 1 for an unknown window, …"; "window (0 controller, 1 timers)".
+#[tactic(auto, unfolding(board::specs::Step::writing_of))]
 fn writing(b: Board, window: u64, width: u64, offset: u64, value: u64) -> Turn
     ensures { result ≡ writing_of b window width offset value }
 {
     match window {
-        0 => controller_writing(b, width, offset, value),
-        1 => timers_writing(b, width, offset, value),
+        0 => by_controller(
+            b,
+            plain_controller::writing(b.controller, width, offset, value),
+        ),
+        1 => by_timers(b, plain_timers::writing(b.timers, width, offset, value)),
         _ => refused(b, Refusal::Window),
     }
 }
 
-// A write in window 0. A controller register moves no wire.
-fn controller_writing(b: Board, width: u64, offset: u64, value: u64) -> Turn
-    ensures { result ≡ by_controller b (controller_writing b.controller width offset value) }
-{
-    let c = b.controller;
-    let t = plain_controller::writing(c, width, offset, value);
-    let controller = t.controller;
-    let answer = t.answer;
-    let mut next = b;
-    next.controller = controller;
-    Turn {
-        board: next,
-        answer,
-    }
-}
-
-// A write in window 1. A timer register may move a wire, and one of the "Mistakes we have made already" is "Letting a
-// register write that changes a level timer's wire pass without an edge."
-fn timers_writing(b: Board, width: u64, offset: u64, value: u64) -> Turn
-    ensures { result ≡ by_timers b (timers_writing b.timers width offset value) }
-{
-    let s = b.timers;
-    let c = b.controller;
-    let outside = b.outside;
-    let t = plain_timers::writing(s, width, offset, value);
-    let timers = t.timers;
-    let answer = t.answer;
-    Turn {
-        board: joined(c, timers, outside),
-        answer,
-    }
-}
-
 // "A wire change tests 3, then 4."
+#[tactic(auto, unfolding(board::specs::Step::wiring_of))]
 fn wiring(b: Board, pin: u64, level: u64) -> Turn
     ensures { result ≡ wiring_of b pin level }
 {
@@ -118,55 +90,47 @@ fn wiring(b: Board, pin: u64, level: u64) -> Turn
     if 1 < level {
         return refused(b, Refusal::Level);
     }
-    let n = pin as usize;
-    let c = b.controller;
-    let timers = b.timers;
     let mut outside = b.outside;
-    outside[n] = level as u8;
+    outside[pin as usize] = level as u8;
     Turn {
-        board: joined(c, timers, outside),
+        board: joined(b.controller, b.timers, outside),
         answer: Answer::Done,
     }
 }
 
 // "End of interrupt with vector v: every level entry whose present vector is v gets remote IRR 0. …"
+#[tactic(auto, unfolding(board::specs::Step::ending_of))]
 fn ending(b: Board, vector: u8) -> Turn
     ensures { result ≡ ending_of b vector }
 {
-    let c = b.controller;
-    let mut next = b;
-    next.controller = plain_controller::ended(c, vector);
     Turn {
-        board: next,
+        board: Board {
+            controller: plain_controller::ended(b.controller, vector),
+            ..b
+        },
         answer: Answer::Done,
     }
 }
 
 // "Delivery step: the lowest-numbered eligible pin gives its pin number, vector, destination and bit 11. …"
+#[tactic(auto, unfolding(board::specs::Step::delivering_on_board))]
 fn delivering(b: Board) -> Turn
     ensures { result ≡ delivering_on_board b }
 {
-    let c = b.controller;
-    let t = plain_controller::delivering(c);
-    let controller = t.controller;
-    let answer = t.answer;
-    let mut next = b;
-    next.controller = controller;
-    Turn {
-        board: next,
-        answer,
-    }
+    by_controller(b, plain_controller::delivering(b.controller))
 }
 
 // "The period is 1 to 100,000,000, each mask is nonzero and below 2^24, the id is at most 15." (K6)
+#[tactic(auto, unfolding(settings::specs::Settings::in_range, settings::specs::Settings::vendor_ok, settings::specs::Settings::period_ok, settings::specs::Settings::id_ok))]
 fn in_range(settings: Settings) -> bool
     ensures { result ≡ in_range settings }
 {
-    let period = (1 <= settings.period) & (settings.period <= 100000000);
-    let masks = plain_timers::mask_ok(settings.mask0)
-        & (plain_timers::mask_ok(settings.mask1)
-            & (plain_timers::mask_ok(settings.mask2) & (settings.id <= 15)));
-    period & masks
+    1 <= settings.period
+        && settings.period <= 100000000
+        && plain_timers::mask_ok(settings.mask0)
+        && plain_timers::mask_ok(settings.mask1)
+        && plain_timers::mask_ok(settings.mask2)
+        && settings.id <= 15
 }
 
 // The controller: "Reset: every low word 0x00010000, high 0, …, index 0, outside wires low." The timers: "Reset:
@@ -182,6 +146,7 @@ fn reset(settings: Settings) -> Board
 }
 
 // "A reset … tests only 10, never 5; refused, it hands that state back." (K6)
+#[tactic(auto, unfolding(board::specs::Step::resetting_of))]
 fn resetting(b: Board, settings: Settings) -> Turn
     ensures { result ≡ resetting_of b settings }
 {
@@ -196,6 +161,7 @@ fn resetting(b: Board, settings: Settings) -> Turn
 }
 
 // What a call does to a board that it takes.
+#[tactic(auto, unfolding(board::specs::Step::served_of))]
 fn served(b: Board, call: Call) -> Turn
     ensures { result ≡ served_of b call }
 {
@@ -223,27 +189,11 @@ fn served(b: Board, call: Call) -> Turn
 fn takes(b: Board, call: Call) -> bool
     ensures { result ≡ taken_by b call }
 {
-    match call {
-        Call::Read {
-            window,
-            width,
-            offset,
-        } => well_formed(b),
-        Call::Write {
-            window,
-            width,
-            offset,
-            value,
-        } => well_formed(b),
-        Call::Wire { pin, level } => well_formed(b),
-        Call::End { vector } => well_formed(b),
-        Call::Advance { ticks } => well_formed(b),
-        Call::Deliver => well_formed(b),
-        Call::Reset { settings } => true,
-    }
+    matches!(call, Call::Reset { .. }) || well_formed(b)
 }
 
 // "Refusal 5 is tested first."
+#[tactic(auto, unfolding(board::specs::Step::turn_of))]
 pub fn step(b: Board, call: Call) -> Turn
     ensures { result ≡ turn_of b call }
 {

@@ -11,40 +11,28 @@ use board::Board;
 fn outside_ok(outside: [u8; 24]) -> bool
     ensures { result ≡ levels_ok outside }
 {
-    let mut i: usize = 0;
-    while i < 24 {
+    for i in 0..24 {
         if 1 < outside[i] {
             return false;
         }
-        i += 1;
     }
     true
 }
 
 // "… a pin level kept on the board is the one the wire rule gives; …"
+#[tactic(auto, using(crate::proofs::Kept::same_lists))]
 fn kept(level: [u8; 24], wires: [u8; 24]) -> bool
     ensures { result ≡ every (λ i. nat_eq (slice_index level i) (slice_index wires i)) }
 {
-    let mut i: usize = 0;
-    while i < 24 {
-        if level[i] != wires[i] {
-            return false;
-        }
-        i += 1;
-    }
-    true
+    level == wires
 }
 
 // "Well formed": the controller's part, the timers' part, the outside wires and the kept pin levels.
 pub fn well_formed(b: Board) -> bool
     ensures { result ≡ well_formed b }
 {
-    let c = b.controller;
-    let timers = b.timers;
-    let outside = b.outside;
-    let entries = c.entries;
-    let level = entries.level;
-    plain_controller::well_formed(c)
-        & (plain_timers::well_formed(timers)
-            & (outside_ok(outside) & kept(level, wires(outside, timers))))
+    plain_controller::well_formed(b.controller)
+        & (plain_timers::well_formed(b.timers)
+            & (outside_ok(b.outside)
+                & kept(b.controller.entries.level, wires(b.outside, b.timers))))
 }

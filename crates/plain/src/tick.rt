@@ -13,6 +13,7 @@ use controller::Controller;
 use timers::Timers;
 
 // The wire of a pin raised. There is no pin above 23.
+#[tactic(auto, using(crate::proofs::Kept::past_last))]
 fn raised(wires: [u8; 24], pin: u16) -> [u8; 24]
     ensures { result ≡ slice_set wires pin 1 }
 {
@@ -35,53 +36,31 @@ fn pulsed(c: Controller, wires: [u8; 24], pin: u16) -> Controller
     plain_controller::rewired(up, wires)
 }
 
-// What the firing of timer m leaves of the timers.
-fn fired(s: Timers, m: usize) -> Timers
-    requires { m < 3 }
-    ensures { result ≡ fired_of s m }
-{
-    let t = s.timer[m];
-    let mut next = s;
-    next.timer[m] = plain_timers::fired(t);
-    next
-}
-
 // "Then timers 0, 1, 2 in turn, each firing a step of its own: …": the firing of timer m.
 fn fire(b: Board, m: usize) -> Board
     requires { m < 3 }
     ensures { result ≡ fire_of m b }
 {
-    let c = b.controller;
-    let outside = b.outside;
-    let before = b.timers;
-    let t = before.timer[m];
-    let timers = fired(before, m);
-    let levels = wires(outside, timers);
+    let mut timer = b.timers.timer;
+    let t = timer[m];
+    timer[m] = plain_timers::fired(t);
+    let timers = Timers { timer, ..b.timers };
+    let levels = wires(b.outside, timers);
     // "A firing edge timer with its interrupt enabled raises the wire of its pin and drops it again, two steps."
     if plain_timers::pulses(t) {
         return Board {
             timers,
-            controller: pulsed(c, levels, t.route),
-            outside,
+            controller: pulsed(b.controller, levels, t.route),
+            ..b
         };
     }
     // "A firing level timer sets its status, even with its interrupt disabled.", which may raise its wire. An edge
     // timer with its interrupt disabled comes here too, and its firing moves no wire.
     Board {
         timers,
-        controller: plain_controller::rewired(c, levels),
-        outside,
+        controller: plain_controller::rewired(b.controller, levels),
+        ..b
     }
-}
-
-// "… a timer fires if counter and comparator are equal (in 32-bit mode, modulo 2^32)."
-fn due(b: Board, m: usize) -> bool
-    requires { m < 3 }
-    ensures { result ≡ matches_of b.timers m }
-{
-    let s = b.timers;
-    let t = s.timer[m];
-    plain_timers::meets(s.counter, t)
 }
 
 // "An advance takes 0 to 4,294,967,295 ticks.": here n, and this engine "walks every tick" (K3). "A firing is counted
@@ -100,24 +79,29 @@ pub(crate) fn advancing(b: Board, n: u32) -> Turn
     let mut fired0: u32 = 0;
     let mut fired1: u32 = 0;
     let mut fired2: u32 = 0;
-    let mut i: u32 = 0;
-    while i < n {
-        // "Enabled: the counter goes up by one modulo 2^64. Then timers 0, 1, 2 in turn, …"
-        let counter = std::num::wrapping_add_u64(next.timers.counter, 1);
+    for _i in 0..n {
+        // "Enabled: the counter goes up by one modulo 2^64. Then timers 0, 1, 2 in turn, …": "a timer fires if counter
+        // and comparator are equal (in 32-bit mode, modulo 2^32)."
+        // (The timers are written out, each with its count: a loop over them, with the counts in an array, was tried,
+        // is proved, and walks a tick more than ten times as slow. Their array is taken out of the board before one
+        // is read: a board with an element of it indexed is kept in memory, and the walk takes a third longer.)
+        let counter = next.timers.counter.wrapping_add(1);
         next.timers.counter = counter;
-        if due(next, 0) {
+        let timer = next.timers.timer;
+        if plain_timers::meets(next.timers.counter, timer[0]) {
             next = fire(next, 0);
             fired0 += 1;
         }
-        if due(next, 1) {
+        let timer = next.timers.timer;
+        if plain_timers::meets(next.timers.counter, timer[1]) {
             next = fire(next, 1);
             fired1 += 1;
         }
-        if due(next, 2) {
+        let timer = next.timers.timer;
+        if plain_timers::meets(next.timers.counter, timer[2]) {
             next = fire(next, 2);
             fired2 += 1;
         }
-        i += 1;
     }
     Turn {
         board: next,

@@ -1,6 +1,7 @@
 // "Delivery step" and "End of interrupt".
 ghost use Rattle.std.specs.Prelude.{◌≡◌, ◌<◌};
-ghost use Rattle.entries.specs.Table.{first_eligible, given, taken};
+ghost use Rattle.std.specs.Option.{IfSome, unwrap_or};
+ghost use Rattle.entries.specs.Table.{first_eligible};
 ghost use Rattle.entries.specs.Table.{ended as ended_entries};
 ghost use Rattle.controller.specs.Steps.{after_end, delivering_of};
 
@@ -9,66 +10,48 @@ use crate::word::{is_level, logical, vector, with_remote};
 use answers::Answer;
 use controller::{Controller, Turn};
 use entries::Entries;
+use std::array;
 
-// "Delivery step: the lowest-numbered eligible pin …": each is tried in turn, and 24 is none.
-fn first_eligible(e: Entries) -> usize
-    ensures { result ≡ first_eligible e }
+// "Delivery step: the lowest-numbered eligible pin …": each is tried in turn.
+fn first_eligible(e: Entries) -> Option<usize>
+    ensures lowest { unwrap_or result 24 ≡ first_eligible e }
+    ensures on_a_pin { IfSome result (λ n. n < 24) }
 {
-    let mut i: usize = 0;
-    while i < 24 {
+    for i in 0..24 {
         if eligible(e.low[i], e.level[i], e.held[i]) {
-            return i;
+            return Some(i);
         }
-        i += 1;
     }
-    i
+    None
 }
 
-// "… gives its pin number, vector, destination and bit 11."
-fn given(e: Entries, n: usize) -> Answer
-    requires { n < 24 }
-    ensures { result ≡ given e n }
-{
-    let low = e.low[n];
-    Answer::Interrupt {
-        pin: n as u8,
-        vector: vector(low),
-        destination: e.destination[n],
-        logical: logical(low),
-    }
-}
-
-// "An edge pin loses its held edge; a level pin gets remote IRR 1."
-fn taken(e: Entries, n: usize) -> Entries
-    requires { n < 24 }
-    ensures { result ≡ taken e n }
-{
-    let mut next = e;
-    if is_level(e.low[n]) {
-        next.low[n] = with_remote(e.low[n]);
-        return next;
-    }
-    next.held[n] = 0;
-    next
-}
-
-// The delivery step. "No eligible pin: none, same state."
+// The delivery step. "… gives its pin number, vector, destination and bit 11. An edge pin loses its held edge; a level
+// pin gets remote IRR 1. No eligible pin: none, same state."
+#[tactic(auto, unfolding(controller::specs::Steps::delivering_of, entries::specs::Table::taken))]
 pub fn delivering(c: Controller) -> Turn
     ensures { result ≡ delivering_of c }
 {
-    let entries = c.entries;
-    let n = first_eligible(entries);
-    if 24 <= n {
+    let Some(n) = first_eligible(c.entries) else {
         return Turn {
             controller: c,
             answer: Answer::Nothing,
         };
+    };
+    let mut entries = c.entries;
+    let low = entries.low[n];
+    if is_level(low) {
+        entries.low[n] = with_remote(low);
+    } else {
+        entries.held[n] = 0;
     }
-    let mut next = c;
-    next.entries = taken(entries, n);
     Turn {
-        controller: next,
-        answer: given(entries, n),
+        controller: Controller { entries, ..c },
+        answer: Answer::Interrupt {
+            pin: n as u8,
+            vector: vector(low),
+            destination: c.entries.destination[n],
+            logical: logical(low),
+        },
     }
 }
 
@@ -76,13 +59,11 @@ pub fn delivering(c: Controller) -> Turn
 fn ended_entries(e: Entries, v: u8) -> Entries
     ensures { result ≡ ended_entries e v }
 {
-    let mut next = e;
-    let mut i: usize = 0;
-    while i < 24 {
-        next.low[i] = ended_word(e.low[i], v);
-        i += 1;
+    let low = e.low;
+    Entries {
+        low: array::from_fn(|i| ended_word(low[i], v)),
+        ..e
     }
-    next
 }
 
 // "End of interrupt with vector v: every level entry whose present vector is v gets remote IRR 0. …" The rest of the
@@ -90,8 +71,8 @@ fn ended_entries(e: Entries, v: u8) -> Entries
 pub fn ended(c: Controller, v: u8) -> Controller
     ensures { result ≡ after_end c v }
 {
-    let entries = c.entries;
-    let mut next = c;
-    next.entries = ended_entries(entries, v);
-    next
+    Controller {
+        entries: ended_entries(c.entries, v),
+        ..c
+    }
 }

@@ -9,23 +9,22 @@ use entries::Entries;
 
 // "… no edge held on a level pin; stored entry words contain writable bits only, beside remote IRR; …", at each of
 // the 24 pins.
+#[tactic(auto, unfolding(entries::specs::Table::entries_ok, pins::specs::Pins::all_from))]
 fn entries_ok(e: Entries) -> bool
     ensures { result ≡ entries_ok e }
 {
-    let mut i: usize = 0;
-    while i < 24 {
+    for i in 0..24 {
         if !pin_ok(e.low[i], e.level[i], e.held[i]) {
             return false;
         }
-        i += 1;
     }
     true
 }
 
 // "Well formed: controller id at most 15, index at most 255; …"
+#[tactic(auto, unfolding(controller::specs::State::well_formed))]
 pub fn well_formed(c: Controller) -> bool
     ensures { result ≡ well_formed c }
 {
-    let entries = c.entries;
-    (c.id <= 15) & (c.index <= 255) & entries_ok(entries)
+    c.id <= 15 && c.index <= 255 && entries_ok(c.entries)
 }

@@ -1,14 +1,15 @@
 // The window: "Width 4 only; alignment isn't tested. Offset 0x00 is the index (bits 7:0 kept, the rest read 0).
 // Offset 0x10 is the data window; … Any other offset: 1."
+// A controller and an access's width, offset and value go together here, as the paper names them: a struct of them
+// would be made in one line and taken apart in the next.
 ghost use Rattle.std.specs.Prelude.{◌≡◌, ◌<◌, ◌/◌, ◌%◌, ◌^◌};
 ghost use Rattle.answers.specs.declared.Answer.TheVariants as answer;
-ghost use Rattle.entries.specs.Table.{low_shown, high_shown, low_written, high_written};
 ghost use Rattle.controller.specs.State.{reset_to, with_id, with_index, turn};
 ghost use Rattle.controller.specs.State.{refused as refused_turn};
-ghost use Rattle.controller.specs.Window.{id_shown, entry_read, data_read, entry_written, data_written, reading_of, writing_of};
+ghost use Rattle.controller.specs.Window.{id_shown, data_read, data_written, reading_of, writing_of};
 
-use crate::pin::eligible;
-use crate::word::{is_level, shown, written};
+use crate::pin::{held_written, low_shown};
+use crate::word::written;
 use answers::{Answer, Refusal};
 use controller::{Controller, Turn};
 use entries::Entries;
@@ -61,38 +62,6 @@ fn refused(c: Controller, refusal: Refusal) -> Turn
 
 // ---- reading
 
-// "entry n, low word", as it reads: "Bit 12 reads 1 exactly for an eligible pin."
-fn low_shown(e: Entries, n: usize) -> u32
-    requires { n < 24 }
-    ensures { result ≡ low_shown e n }
-{
-    let low = e.low[n];
-    shown(low, eligible(low, e.level[n], e.held[n]))
-}
-
-// "entry n, high word: destination, bits 31:24", as it reads.
-fn high_shown(e: Entries, n: usize) -> u32
-    requires { n < 24 }
-    ensures { result ≡ high_shown e n }
-{
-    e.destination[n] as u32 * 0x1000000
-}
-
-// A read at index 0x10+2n, "entry n, low word", or 0x11+2n, "entry n, high word: …"; k is how far the index is above
-// 0x10.
-fn entry_read(c: Controller, k: u32) -> u32
-    requires { k < 48 }
-    ensures { result ≡ entry_read c k }
-{
-    let entries = c.entries;
-    let n = (k / 2) as usize;
-    if k % 2 == 0 {
-        low_shown(entries, n)
-    } else {
-        high_shown(entries, n)
-    }
-}
-
 // Index 0x00, "id, bits 27:24, writable", and 0x02, "bits 27:24 equal the id, read only".
 fn id_shown(c: Controller) -> u32
     ensures { result ≡ id_shown c }
@@ -100,17 +69,25 @@ fn id_shown(c: Controller) -> u32
     c.id % 16 * 0x1000000
 }
 
-// The register that the index names. "Other indexes read 0."
-#[tactic(auto, unfolding(controller::specs::Window::data_read))]
+// The register that the index names. Index 0x10+2n is "entry n, low word", 0x11+2n "entry n, high word: destination,
+// bits 31:24". "Other indexes read 0."
+#[tactic(auto, unfolding(controller::specs::Window::data_read, entries::specs::Table::low_shown))]
 fn data_read(c: Controller) -> u32
     ensures { result ≡ data_read c }
 {
+    let e = c.entries;
     let index = c.index;
     match index {
-        0x00 => id_shown(c),
+        0x00 | 0x02 => id_shown(c),
         0x01 => 0x0017_0011,
-        0x02 => id_shown(c),
-        0x10..=0x3f => entry_read(c, index - 0x10),
+        0x10..=0x3f => {
+            let n = (index as usize - 0x10) / 2;
+            if index % 2 == 0 {
+                low_shown(e.low[n], e.level[n], e.held[n])
+            } else {
+                e.destination[n] as u32 * 0x1000000
+            }
+        }
         _ => 0,
     }
 }
@@ -132,67 +109,37 @@ pub fn reading(c: Controller, width: u64, offset: u64) -> Turn
 
 // ---- writing
 
-// "A low-word write never makes an edge. If it leaves the pin level, a held edge is dropped; otherwise the held edge
-// stays, masked or not."
-fn low_written(e: Entries, n: usize, value: u32) -> Entries
-    requires { n < 24 }
-    ensures { result ≡ low_written e n value }
-{
-    let low = written(e.low[n], value);
-    let mut next = e;
-    next.low[n] = low;
-    if is_level(low) {
-        next.held[n] = 0;
-        return next;
-    }
-    next
-}
-
-// "entry n, high word: destination, bits 31:24": the other bits of the value change nothing.
-fn high_written(e: Entries, n: usize, value: u32) -> Entries
-    requires { n < 24 }
-    ensures { result ≡ high_written e n value }
-{
-    let mut next = e;
-    next.destination[n] = (value / 0x1000000) as u8;
-    next
-}
-
-// A write at index 0x10+2n, "entry n, low word", or 0x11+2n, "entry n, high word: …"; k as in entry_read.
-fn entry_written(c: Controller, k: u32, value: u32) -> Controller
-    requires { k < 48 }
-    ensures { result ≡ entry_written c k value }
-{
-    let entries = c.entries;
-    let n = (k / 2) as usize;
-    let mut next = c;
-    if k % 2 == 0 {
-        next.entries = low_written(entries, n, value);
-        return next;
-    }
-    next.entries = high_written(entries, n, value);
-    next
-}
-
 // Index 0x00: "id, bits 27:24, writable".
 fn id_written(c: Controller, value: u32) -> Controller
     ensures { result ≡ with_id c (value / 2 ^ 24 % 16) }
 {
-    let mut next = c;
-    next.id = value / 0x1000000 % 16;
-    next
+    Controller {
+        id: value / 0x1000000 % 16,
+        ..c
+    }
 }
 
-// The register that the index names. "Other indexes read 0. Writes to them and to read-only bits answer 0 and change
-// nothing."
-#[tactic(auto, unfolding(controller::specs::Window::data_written))]
+// The register that the index names, an entry's words as in data_read. "Other indexes read 0. Writes to them and to
+// read-only bits answer 0 and change nothing."
+#[tactic(auto, unfolding(controller::specs::Window::data_written, entries::specs::Table::low_written))]
 fn data_written(c: Controller, value: u32) -> Controller
     ensures { result ≡ data_written c value }
 {
+    let mut entries = c.entries;
     let index = c.index;
     match index {
         0x00 => id_written(c, value),
-        0x10..=0x3f => entry_written(c, index - 0x10, value),
+        0x10..=0x3f => {
+            let n = (index as usize - 0x10) / 2;
+            if index % 2 == 0 {
+                let low = written(entries.low[n], value);
+                entries.low[n] = low;
+                entries.held[n] = held_written(low, entries.held[n]);
+            } else {
+                entries.destination[n] = (value / 0x1000000) as u8;
+            }
+            Controller { entries, ..c }
+        }
         _ => c,
     }
 }
@@ -201,19 +148,21 @@ fn data_written(c: Controller, value: u32) -> Controller
 fn index_written(c: Controller, value: u64) -> Controller
     ensures { result ≡ with_index c (value % 256) }
 {
-    let mut next = c;
-    next.index = (value % 256) as u32;
-    next
+    Controller {
+        index: (value % 256) as u32,
+        ..c
+    }
 }
 
 // "An access then tests … 2, 1 for the offset, 4."
+#[tactic(auto, unfolding(controller::specs::Window::writing_of))]
 pub fn writing(c: Controller, width: u64, offset: u64, value: u64) -> Turn
     ensures { result ≡ writing_of c width offset value }
 {
     if width != 4 {
         return refused(c, Refusal::Width);
     }
-    if (offset != 0x00) & (offset != 0x10) {
+    if !matches!(offset, 0x00 | 0x10) {
         return refused(c, Refusal::Offset);
     }
     if 4294967296 <= value {

@@ -7,19 +7,20 @@ ghost use Rattle.controller.specs.Steps.{rewired};
 use crate::pin::held_after;
 use controller::Controller;
 use entries::Entries;
+use std::array;
 
 // The wires change to these levels, all at once.
 fn wired(e: Entries, levels: [u8; 24]) -> Entries
     ensures { result ≡ wired e levels }
 {
-    let mut next = e;
-    let mut i: usize = 0;
-    while i < 24 {
-        next.held[i] = held_after(e.low[i], e.level[i], levels[i], e.held[i]);
-        i += 1;
+    let low = e.low;
+    let level = e.level;
+    let held = e.held;
+    Entries {
+        held: array::from_fn(|i| held_after(low[i], level[i], levels[i], held[i])),
+        level: levels,
+        ..e
     }
-    next.level = levels;
-    next
 }
 
 // The controller after a step that leaves the wires at these levels: "After every step other than a low-word write,
@@ -27,8 +28,8 @@ fn wired(e: Entries, levels: [u8; 24]) -> Entries
 pub fn rewired(c: Controller, levels: [u8; 24]) -> Controller
     ensures { result ≡ rewired c levels }
 {
-    let entries = c.entries;
-    let mut next = c;
-    next.entries = wired(entries, levels);
-    next
+    Controller {
+        entries: wired(c.entries, levels),
+        ..c
+    }
 }

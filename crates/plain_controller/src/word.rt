@@ -28,6 +28,7 @@ pub(crate) fn vector(low: u32) -> u8
 }
 
 // "10:8 delivery mode"
+#[tactic(auto, unfolding(entries::specs::Word::mode_of))]
 pub(crate) fn mode(low: u32) -> u32
     ensures { result ≡ mode_of low }
 {
@@ -49,6 +50,7 @@ pub(crate) fn active_low(low: u32) -> u8
 }
 
 // "14 remote IRR (read only)"
+#[tactic(auto, unfolding(entries::specs::Word::remote_of))]
 pub(crate) fn is_remote(low: u32) -> bool
     ensures { result ≡ remote_of low }
 {
@@ -56,6 +58,7 @@ pub(crate) fn is_remote(low: u32) -> bool
 }
 
 // "15 level"
+#[tactic(auto, unfolding(entries::specs::Word::level_of))]
 pub(crate) fn is_level(low: u32) -> bool
     ensures { result ≡ level_of low }
 {
@@ -63,6 +66,7 @@ pub(crate) fn is_level(low: u32) -> bool
 }
 
 // "16 mask"
+#[tactic(auto, unfolding(entries::specs::Word::masked_of))]
 pub(crate) fn is_masked(low: u32) -> bool
     ensures { result ≡ masked_of low }
 {
@@ -70,6 +74,7 @@ pub(crate) fn is_masked(low: u32) -> bool
 }
 
 // The word with remote IRR 0.
+#[tactic(auto, unfolding(entries::specs::Word::without_remote))]
 pub(crate) fn without_remote(low: u32) -> u32
     ensures { result ≡ without_remote low }
 {
@@ -77,6 +82,7 @@ pub(crate) fn without_remote(low: u32) -> u32
 }
 
 // The word with remote IRR 1.
+#[tactic(auto, unfolding(entries::specs::Word::with_remote))]
 pub(crate) fn with_remote(low: u32) -> u32
     ensures { result ≡ with_remote low }
 {
@@ -84,6 +90,7 @@ pub(crate) fn with_remote(low: u32) -> u32
 }
 
 // The writable bits of a value: 11:0, 13 and 16:15.
+#[tactic(auto, unfolding(entries::specs::Word::writable))]
 fn writable(value: u32) -> u32
     ensures { result ≡ writable value }
 {
@@ -91,6 +98,7 @@ fn writable(value: u32) -> u32
 }
 
 // "… a low-word write that leaves the entry edge sets remote IRR to 0; one that leaves it level keeps the bit."
+#[tactic(auto, unfolding(entries::specs::Word::writable, entries::specs::Word::written))]
 pub(crate) fn written(low: u32, value: u32) -> u32
     ensures { result ≡ written low value }
 {
@@ -102,6 +110,7 @@ pub(crate) fn written(low: u32, value: u32) -> u32
 }
 
 // "Bit 12 reads 1 exactly for an eligible pin."
+#[tactic(auto, unfolding(entries::specs::Word::shown))]
 pub(crate) fn shown(low: u32, eligible: bool) -> u32
     ensures { result ≡ shown low eligible }
 {
@@ -114,6 +123,7 @@ pub(crate) fn shown(low: u32, eligible: bool) -> u32
 
 // "… stored entry words contain writable bits only, beside remote IRR; …" "An edge entry now always reads bit 14 as 0,
 // and a state where it doesn't is not well formed."
+#[tactic(auto, unfolding(entries::specs::Word::word_ok))]
 pub(crate) fn word_ok(low: u32) -> bool
     ensures { result ≡ word_ok low }
 {

@@ -1,6 +1,6 @@
 -- The cases of the code, in the words of the definitions.
-use Rattle.std.proofs.Common.{◌≡◌, ℕ, zero, suc, ◌+◌, ◌*◌, ◌%◌, ◌^◌, ◌<◌, Bool, true, false, cond, not, ◌&&◌, ◌||◌, eqb, ltb, List, [], ◌∷◌, length, get_or, set, refl, ap, ◌∙◌, arith, le-ltb, lt-ltb}
-use native.Mathlib.Decide.{dec_lt, ℕ_discrete}
+use Rattle.std.proofs.Common.{◌≡◌, ℕ, zero, suc, ◌+◌, ◌*◌, ◌%◌, ◌<◌, cond, eqb, List, [], ◌∷◌, length, get_or, set, refl, ap, ◌∙◌, arith}
+use native.Mathlib.Decide.{ℕ_discrete}
 use Rattle.timer.specs.declared.Timer.{Timer}
 use Rattle.timer.specs.declared.Half.{Half}
 use Rattle.timer.specs.State.{blank}
@@ -8,7 +8,7 @@ use Rattle.timer.specs.Halves.{replaced}
 use Rattle.timer.specs.Registers.{bit}
 use Rattle.timers.specs.declared.Timers.{Timers}
 use Rattle.timers.specs.State.{three}
-use Rattle.timers.specs.Registers.{fits, register_of, written_of, half_written}
+use Rattle.timers.specs.Registers.{register_of, written_of, half_written}
 use Rattle.timers.proofs.Three.{of_three}
 use Rattle.timers.proofs.Places.{Unlisted, unlisted-read, unlisted-write, capabilities-write}
 use Rattle.timers.proofs.Halves.{half-replaces}
@@ -46,8 +46,8 @@ unlisted o ((((((((((u, a), b), c), d), t0), c0), t1), c1), t2), c2) =
     }
 
 module _ (s : Timers) (o : ℕ) where
-  pub reads-0 : Unread o → register_of s o ≡ 0
-  reads-0 u = unlisted-read s o (unlisted o u)
+  pub reads_0 : Unread o → register_of s o ≡ 0
+  reads_0 u = unlisted-read s o (unlisted o u)
 
   pub ignores : (v : ℕ) → Unwritten o → written_of s o v ≡ s
   ignores v (((((((((u, b), c), d), t0), c0), t1), c1), t2), c2) = go (ℕ_discrete o 0x000)
@@ -58,16 +58,6 @@ module _ (s : Timers) (o : ℕ) where
 
   pub replaces : (h : Half) (v : ℕ) → Replaced o → half_written s h o v ≡ written_of s o (replaced h (register_of s o) v)
   replaces h v ((((u, a), c0), c1), c2) = half-replaces s h v o a (no-timer 0x108 o c0 c1 c2)
-
--- ---- 4: a 4-byte write with a value above 4,294,967,295
-
-pub fits_not : (w v : ℕ) → fits w v ≡ not (eqb w 4 && ltb 4294967295 v)
-fits_not w v = go (eqb w 4) (dec_lt v (2 ^ 32))
-  where
-    go : (b : Bool) → Dec (v < 2 ^ 32) → (not b || ltb v (2 ^ 32)) ≡ not (b && ltb 4294967295 v)
-    go false d = refl
-    go true (yes l) = rw (lt-ltb v (2 ^ 32) l, le-ltb 4294967295 v (omega arith))
-    go true (no n) = rw (le-ltb v (2 ^ 32) (omega arith), lt-ltb 4294967295 v (omega arith))
 
 -- ---- bit 0
 

@@ -1,3 +1,3 @@
 -- Laws of the code's cases.
---   Cases   the last arm of a match on an offset, a value that is too wide, a timer put into its place
+--   Cases   the last arm of a match on an offset, a timer put into its place
 pub mod Cases

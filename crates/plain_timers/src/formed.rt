@@ -9,6 +9,7 @@ use timer::Timer;
 use timers::Timers;
 
 // "… any other kept number fits its register or setting.": flags are 0 or 1.
+#[tactic(auto, unfolding(timer::specs::Formed::flags_fit))]
 fn flags_fit(t: Timer) -> bool
     ensures { result ≡ flags_fit t }
 {
@@ -18,6 +19,7 @@ fn flags_fit(t: Timer) -> bool
 }
 
 // "… its comparator and period are below 2^32 in 32-bit mode; …"
+#[tactic(auto, unfolding(timer::specs::Formed::narrow_fits))]
 fn narrow_fits(t: Timer) -> bool
     ensures { result ≡ narrow_fits t }
 {
@@ -25,6 +27,7 @@ fn narrow_fits(t: Timer) -> bool
 }
 
 // "… each mask is nonzero and below 2^24, …" (K6)
+#[tactic(auto, unfolding(settings::specs::Settings::mask_ok))]
 pub fn mask_ok(mask: u32) -> bool
     ensures { result ≡ mask_ok mask }
 {
@@ -32,6 +35,7 @@ pub fn mask_ok(mask: u32) -> bool
 }
 
 // "The period is 1 to 100,000,000, …" (K6); the vendor is a number of 16 bits.
+#[tactic(auto, unfolding(timers::specs::Formed::settings_fit, settings::specs::Settings::vendor_ok, settings::specs::Settings::period_ok))]
 fn settings_fit(vendor: u32, period: u32) -> bool
     ensures { result ≡ settings_fit vendor period }
 {
@@ -40,6 +44,8 @@ fn settings_fit(vendor: u32, period: u32) -> bool
 
 // "… each timer's set-comparator bit is 0 unless it is periodic; … its route is at most 23; its status is 0 if it is
 // edge type; …"; "A well-formed state has settings in range and each route in its mask" (K6).
+// Mask and timer stay two parameters, in registers.rt too: they stand in two arrays of the state, which C lends.
+#[tactic(auto, unfolding(timer::specs::Formed::timer_formed))]
 fn timer_ok(mask: u32, t: Timer) -> bool
     ensures { result ≡ timer_formed mask t }
 {
@@ -50,12 +56,14 @@ fn timer_ok(mask: u32, t: Timer) -> bool
 }
 
 // Each timer is well formed, and "… any other kept number fits its register or setting.": the enable bit is 0 or 1.
+#[tactic(auto, unfolding(timers::specs::Formed::well_formed))]
 pub fn well_formed(s: Timers) -> bool
     ensures { result ≡ well_formed s }
 {
-    let t0 = s.timer[0];
-    let t1 = s.timer[1];
-    let t2 = s.timer[2];
-    let timers = timer_ok(s.masks[0], t0) & (timer_ok(s.masks[1], t1) & timer_ok(s.masks[2], t2));
-    (s.enabled <= 1) & (settings_fit(s.vendor, s.tick_period) & timers)
+    s.enabled <= 1
+        && settings_fit(s.vendor, s.tick_period)
+        && s.masks
+            .iter()
+            .zip(&s.timer)
+            .all(|(mask, t)| timer_ok(*mask, *t))
 }

@@ -15,9 +15,10 @@ fn half_at(offset: u64) -> Half
     ensures { result ≡ half_at offset }
 {
     if offset % 8 == 0 {
-        return Half::Low;
+        Half::Low
+    } else {
+        Half::High
     }
-    Half::High
 }
 
 // "A half read gives that half of the 8-byte value."
@@ -42,13 +43,15 @@ fn replaced(half: Half, x: u64, value: u32) -> u64
 
 // What a read gives: at width 8 the whole register, at width 4 a half. "A half read gives that half of the 8-byte
 // value."
+#[tactic(auto, unfolding(timers::specs::Registers::shown_of))]
 pub(crate) fn shown(s: Timers, width: u64, offset: u64) -> u64
     ensures { result ≡ shown_of s width offset }
 {
     if width == 8 {
-        return register(s, offset);
+        register(s, offset)
+    } else {
+        half_of(half_at(offset), register(s, offset - offset % 8))
     }
-    half_of(half_at(offset), register(s, offset - offset % 8))
 }
 
 // "For a comparator, the half is replaced in whatever the whole write would set: comparator, period or both. Bit 6
@@ -67,28 +70,28 @@ fn half_compared(t: Timer, half: Half, value: u32) -> Timer
 
 // "A half write replaces that half of a counter or configuration and then follows the rule for the whole register; a
 // status write takes the missing half as zeros." The offset is the whole register's.
+#[tactic(auto, using(crate::proofs::Cases::replaces), unfolding(timers::specs::Registers::half_written))]
 fn half_written(s: Timers, half: Half, offset: u64, value: u32) -> Timers
     ensures { result ≡ half_written s half offset value }
 {
-    let t0 = s.timer[0];
-    let t1 = s.timer[1];
-    let t2 = s.timer[2];
     match offset {
         0x020 => register_written(s, offset, replaced(half, 0, value)),
-        0x108 => with_timer(s, 0, half_compared(t0, half, value)),
-        0x128 => with_timer(s, 1, half_compared(t1, half, value)),
-        0x148 => with_timer(s, 2, half_compared(t2, half, value)),
+        0x108 => with_timer(s, 0, half_compared(s.timer[0], half, value)),
+        0x128 => with_timer(s, 1, half_compared(s.timer[1], half, value)),
+        0x148 => with_timer(s, 2, half_compared(s.timer[2], half, value)),
         _ => register_written(s, offset, replaced(half, register(s, offset), value)),
     }
 }
 
 // What a write leaves: at width 8 "the rule for the whole register", at width 4 "A half write replaces that half …".
+#[tactic(auto, unfolding(timers::specs::Registers::stored_of))]
 pub(crate) fn stored(s: Timers, width: u64, offset: u64, value: u64) -> Timers
     requires { (width ≢ 8) → value < 2 ^ 32 }
     ensures { result ≡ stored_of s width offset value }
 {
     if width == 8 {
-        return register_written(s, offset, value);
+        register_written(s, offset, value)
+    } else {
+        half_written(s, half_at(offset), offset - offset % 8, value as u32)
     }
-    half_written(s, half_at(offset), offset - offset % 8, value as u32)
 }

@@ -1,5 +1,6 @@
 // A timer's route mask (document 02, K6): pin n is in it where bit n is 1.
-ghost use Rattle.std.specs.Prelude.{◌≡◌};
+ghost use Rattle.std.specs.Prelude.{◌≡◌, ◌<◌};
+ghost use Rattle.std.specs.Option.{IfSome, unwrap_or};
 ghost use Rattle.timer.specs.Mask.{in_mask};
 ghost use Rattle.timer.specs.Mask.{lowest as lowest_of};
 
@@ -8,24 +9,21 @@ pub(crate) fn has(mask: u32, pin: u16) -> bool
     ensures { result ≡ in_mask mask pin }
 {
     let mut rest = mask;
-    let mut i: u16 = 0;
-    while i < pin {
-        rest = rest / 2;
-        i += 1;
+    for _i in 0..pin {
+        rest /= 2;
     }
     rest % 2 == 1
 }
 
-// "… its mask's lowest pin, …": each is tried in turn, and 24 is none.
-pub(crate) fn lowest(mask: u32) -> u16
-    ensures { result ≡ lowest_of mask }
+// "… its mask's lowest pin, …": each is tried in turn.
+pub(crate) fn lowest(mask: u32) -> Option<u16>
+    ensures lowest { unwrap_or result 24 ≡ lowest_of mask }
+    ensures on_a_pin { IfSome result (λ n. n < 24) }
 {
-    let mut pin: u16 = 0;
-    while pin < 24 {
+    for pin in 0..24 {
         if has(mask, pin) {
-            return pin;
+            return Some(pin);
         }
-        pin += 1;
     }
-    pin
+    None
 }

@@ -19,6 +19,7 @@ pub(crate) fn one(flag: u8) -> u64
 
 // "Writable: 1 level type, 2 interrupt enable, 3 periodic, 6 set-comparator …, 8 32-bit mode, 13:9 route. Bits 5 and 4
 // read 1; …; the rest read 0." Bits 63:32 read the mask (K6).
+#[tactic(auto, unfolding(timer::specs::Registers::configuration_of))]
 pub(crate) fn configuration(mask: u32, t: Timer) -> u64
     ensures { result ≡ configuration_of mask t }
 {
@@ -42,10 +43,7 @@ fn routed(mask: u32, value: u64, old: u16) -> u16
     ensures { result ≡ (if in_mask mask (value / 2 ^ 9 % 2 ^ 5) then value / 2 ^ 9 % 2 ^ 5 else old) }
 {
     let route = (value / 512 % 32) as u16;
-    if has(mask, route) {
-        return route;
-    }
-    old
+    if has(mask, route) { route } else { old }
 }
 
 // "… 6 set-comparator (kept only if bit 3 is written 1), …"
@@ -53,9 +51,10 @@ fn set_kept(value: u64) -> u8
     ensures { result ≡ (if flag (value / 2 ^ 3 % 2) then value / 2 ^ 6 % 2 else 0) }
 {
     if value / 8 % 2 == 1 {
-        return (value / 64 % 2) as u8;
+        (value / 64 % 2) as u8
+    } else {
+        0
     }
-    0
 }
 
 // "Writing edge type clears the status."
@@ -66,6 +65,7 @@ fn status_kept(value: u64, status: u8) -> u8
 }
 
 // A write to its configuration register. "Writing 32-bit mode reduces comparator and period modulo 2^32."
+#[tactic(auto, unfolding(timer::specs::Registers::configured_of))]
 pub(crate) fn configured(mask: u32, t: Timer, value: u64) -> Timer
     ensures { result ≡ configured_of mask t value }
 {
@@ -85,24 +85,30 @@ pub(crate) fn configured(mask: u32, t: Timer, value: u64) -> Timer
 
 // A write to its comparator register, which makes one number of the comparator and one of the period: for a whole
 // register they are the same. "In 32-bit mode the written number is first reduced modulo 2^32."
+#[tactic(auto, unfolding(timer::specs::Registers::set_of))]
 pub(crate) fn set(t: Timer, comparator: u64, period: u64) -> Timer
     ensures { result ≡ set_of t comparator period }
 {
     let narrow = t.narrow == 1;
-    let mut next = t;
     // "One-shot: the write sets it."
     if t.periodic != 1 {
-        next.comparator = reduced(narrow, comparator);
-        return next;
+        return Timer {
+            comparator: reduced(narrow, comparator),
+            ..t
+        };
     }
     // "Periodic: the write sets the period, and also the comparator if bit 6 is 1; bit 6 then becomes 0."
-    next.period = reduced(narrow, period);
-    next.set_comparator = 0;
-    if t.set_comparator == 1 {
-        next.comparator = reduced(narrow, comparator);
-        return next;
+    let comparator = if t.set_comparator == 1 {
+        reduced(narrow, comparator)
+    } else {
+        t.comparator
+    };
+    Timer {
+        comparator,
+        period: reduced(narrow, period),
+        set_comparator: 0,
+        ..t
     }
-    next
 }
 
 // A write to the whole comparator register: the written number is the one for the comparator and the one for the
@@ -114,13 +120,9 @@ pub(crate) fn compared(t: Timer, value: u64) -> Timer
 }
 
 // "Writing 1 to it clears it", where b is the bit that was written.
+#[tactic(auto, unfolding(timer::specs::Registers::cleared_of))]
 pub(crate) fn cleared(t: Timer, b: u64) -> Timer
     ensures { result ≡ (if flag b then cleared_of t else t) }
 {
-    let mut next = t;
-    if b == 1 {
-        next.status = 0;
-        return next;
-    }
-    next
+    if b == 1 { Timer { status: 0, ..t } } else { t }
 }

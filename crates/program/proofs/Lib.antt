@@ -1,3 +1,4 @@
 mod Text
 mod Order
 pub mod Numbers
+pub mod Whole

@@ -1,6 +1,10 @@
 -- What the contracts of counts of bytes cite.
-use Rattle.std.specs.Prelude.{◌≡◌, ℕ, ◌≤◌, List, length, take}
+use Rattle.std.specs.Prelude.{ℕ, ◌≤◌, ⊤}
+use Rattle.program.specs.declared.transfer.Step.{Step}
+use Rattle.program.specs.declared.transfer.Step.TheVariants as step
 
--- `&xs[..n]` is in bounds and has n bytes. The second part follows from the first, and spares a caller's `&buf[..n]` a proof.
-abbrev pub IsPrefixLen : ℕ → List ℕ → Type 0
-IsPrefixLen n xs = (n ≤ length xs) × (n ≡ length (take n xs))
+-- no step moves more bytes than there are
+abbrev pub StepsWithin : ℕ → Step → Type 0
+StepsWithin n (step.Moved m) = m ≤ n
+StepsWithin n step.Again = ⊤
+StepsWithin n step.End = ⊤

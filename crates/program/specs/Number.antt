@@ -1,6 +1,5 @@
 -- A number, decimal or hexadecimal, as an argument's bytes say it.
-use Rattle.std.specs.Prelude.{ℕ, ◌+◌, ◌-◌, ◌*◌, Bool, true, false, cond, ◌&&◌, ◌||◌, List, [], ◌∷◌, eqb, leb, ltb, drop}
-use Rattle.program.specs.declared.number.Number.{Number}
+use Rattle.std.specs.Prelude.{ℕ, ◌+◌, ◌-◌, ◌*◌, Bool, true, false, cond, ◌&&◌, ◌||◌, List, [], ◌∷◌, eqb, leb, ltb, drop, Option, Some, None}
 
 -- `0` to `9`, `a` to `f`, `A` to `F`; 16 stands for what is no digit
 unfoldable pub digit_of : ℕ → ℕ
@@ -9,6 +8,10 @@ digit_of x = cond (leb 48 x && leb x 57) (x - 48) (cond (leb 97 x && leb x 102) 
 -- a digit of base b
 abbrev pub is_digit : ℕ → ℕ → Bool
 is_digit b x = ltb (digit_of x) b
+
+-- what a digit says, decimal or hexadecimal
+abbrev pub digit : ℕ → Option ℕ
+digit x = cond (is_digit 16 x) (Some (digit_of x)) None
 
 unfoldable pub all_digits : ℕ → List ℕ → Bool
 all_digits b [] = true
@@ -35,17 +38,14 @@ most = 18446744073709551615
 abbrev pub capped : ℕ → ℕ
 capped n = cond (leb n most) n most
 
-abbrev pub number : Bool → ℕ → Number
-number ok value = record { ok = ok; value = value }
-
-unfoldable pub number_in : ℕ → List ℕ → Number
-number_in b s = cond (is_number b s) (number true (capped (said_in b s))) (number false 0)
+unfoldable pub number_in : ℕ → List ℕ → Option ℕ
+number_in b s = cond (is_number b s) (Some (capped (said_in b s))) None
 
 -- a decimal number
 abbrev pub said_by : List ℕ → ℕ
 said_by s = said_in 10 s
 
-unfoldable pub number_of : List ℕ → Number
+unfoldable pub number_of : List ℕ → Option ℕ
 number_of s = number_in 10 s
 
 -- what begins with `0x` or `0X` is hexadecimal
@@ -55,5 +55,5 @@ is_hex (x ∷ []) = false
 is_hex (x ∷ y ∷ s) = eqb x 48 && (eqb y 120 || eqb y 88)
 
 -- a number that is decimal or hexadecimal
-unfoldable pub either_of : List ℕ → Number
+unfoldable pub either_of : List ℕ → Option ℕ
 either_of s = cond (is_hex s) (number_in 16 (drop 2 s)) (number_of s)

@@ -1,39 +1,28 @@
 // A number as an argument, decimal or hexadecimal.
-ghost use Rattle.std.specs.Prelude.{◌≡◌, ◌+◌, ◌*◌, ◌≤◌, ◌<◌, ◌&&◌, leb, length, drop};
-ghost use Rattle.program.specs.Number.{digit_of, capped, number, number_in, number_of, is_hex, either_of};
+ghost use Rattle.std.specs.Prelude.{◌≡◌, ◌+◌, ◌*◌, ◌≤◌, ◌<◌};
+ghost use Rattle.program.specs.Number.{digit, capped, number_in, number_of, is_hex, either_of};
 
-use crate::arguments::arg;
+use crate::Program;
 
-// Whether a text is a number, and which; u64::MAX stands for each one above it, and 0 for none.
-#[derive(Clone, Copy)]
-pub struct Number {
-    pub ok: bool,
-    pub value: u64,
-}
+// Linux lets an argument have 131,071 bytes.
+// An array has room for one: a program has no heap (docs/DECISIONS.md, reading 91).
+const ROOM: usize = 131072;
 
-fn between(low: u8, x: u8, high: u8) -> bool
-    ensures { result ≡ leb low x && leb x high }
+/// What a digit says, decimal or hexadecimal.
+// By hand: where a letter counts from is what the edit hex_letter_counts_from_0 turns.
+#[tactic(auto, using(crate::proofs::Numbers::decimal_digit, crate::proofs::Numbers::lower_digit, crate::proofs::Numbers::upper_digit, crate::proofs::Numbers::below_digits, crate::proofs::Numbers::before_upper, crate::proofs::Numbers::before_lower, crate::proofs::Numbers::above_digits))]
+fn digit(x: u8) -> Option<u64>
+    ensures { result ≡ digit x }
 {
-    (low <= x) & (x <= high)
+    match x {
+        b'0'..=b'9' => Some((x - b'0') as u64),
+        b'a'..=b'f' => Some((x - 87) as u64),
+        b'A'..=b'F' => Some((x - 55) as u64),
+        _ => None,
+    }
 }
 
-// What a digit says; 16 stands for what is none.
-fn digit(x: u8) -> u64
-    ensures { result ≡ digit_of x }
-{
-    if between(b'0', x, b'9') {
-        return (x - b'0') as u64;
-    }
-    if between(b'a', x, b'f') {
-        return (x - 87) as u64;
-    }
-    if between(b'A', x, b'F') {
-        return (x - 55) as u64;
-    }
-    16
-}
-
-// The number with one digit more.
+/// The number with one digit more.
 fn longer(base: u64, n: u64, digit: u64) -> u64
     requires { (0 < base) × (digit < base) }
     ensures { result ≡ capped (n * base + digit) }
@@ -44,77 +33,66 @@ fn longer(base: u64, n: u64, digit: u64) -> u64
     n * base + digit
 }
 
-fn made(ok: bool, value: u64) -> Number
-    ensures { result ≡ number ok value }
+/// The number that a text says, if it says one; u64::MAX stands for each one above it.
+// Not by std's `parse`: of a number above u64::MAX that is an error, and here u64::MAX.
+#[tactic(auto, using(crate::proofs::Numbers::empty, crate::proofs::Numbers::other, crate::proofs::Numbers::no_digit, crate::proofs::Numbers::next, crate::proofs::Numbers::all_read))]
+fn number_in(base: u64, text: &[u8]) -> Option<u64>
+    requires { (0 < base) × (base ≤ 16) }
+    ensures { result ≡ number_in base text.now }
 {
-    Number { ok, value }
-}
-
-// The number that a text says from a place on.
-fn number_from(base: u64, text: &[u8], from: usize) -> Number
-    requires { 0 < base }
-    ensures { result ≡ number_in base (drop from text.now) }
-{
-    if text.len() <= from {
-        return made(false, 0);
+    if text.is_empty() {
+        return None;
     }
-    let mut n: u64 = 0;
-    let mut i = from;
-    while i < text.len() {
-        let d = digit(text[i]);
-        if base <= d {
-            return made(false, 0);
+    let mut n = 0;
+    for x in text {
+        match digit(*x) {
+            Some(d) if d < base => n = longer(base, n, d),
+            _ => return None,
         }
-        n = longer(base, n, d);
-        i += 1;
     }
-    made(true, n)
+    Some(n)
 }
 
+/// A decimal number.
 #[tactic(auto, unfolding(crate::specs::Number::number_of))]
-pub fn number_of(text: &[u8]) -> Number
+pub fn number_of(text: &[u8]) -> Option<u64>
     ensures { result ≡ number_of text.now }
 {
-    number_from(10, text, 0)
+    number_in(10, text)
 }
 
-// Whether a text begins with `0x` or `0X`.
+/// Whether a text begins with `0x` or `0X`.
+#[tactic(auto, using(crate::proofs::Numbers::too_short, crate::proofs::Numbers::by_mark, crate::proofs::Numbers::by_zero))]
 fn is_hex(text: &[u8]) -> bool
     ensures { result ≡ is_hex text.now }
 {
-    if text.len() < 2 {
-        return false;
+    match text {
+        [b'0', mark, ..] => (*mark == b'x') | (*mark == b'X'),
+        _ => false,
     }
-    (text[0] == b'0') & ((text[1] == b'x') | (text[1] == b'X'))
 }
 
-#[tactic(auto, unfolding(crate::specs::Number::either_of))]
-pub fn either_of(text: &[u8]) -> Number
+/// A number that is decimal or, after `0x`, hexadecimal.
+#[tactic(auto, using(crate::proofs::Numbers::two_or_more), unfolding(crate::specs::Number::either_of))]
+pub fn either_of(text: &[u8]) -> Option<u64>
     ensures { result ≡ either_of text.now }
 {
     if is_hex(text) {
-        return number_from(16, text, 2);
+        return number_in(16, &text[2..]);
     }
     number_of(text)
 }
 
-// Linux lets an argument have 131,071 bytes.
-fn room() -> [u8; 131072]
-    ensures { 131072 ≡ length result }
-{
-    [0; 131072]
-}
+impl Program<'_> {
+    /// The decimal number that argument i says; a missing argument says none.
+    pub fn number(&self, i: usize) -> Option<u64> {
+        let mut text = [0; ROOM];
+        number_of(self.arg(i, &mut text))
+    }
 
-// The decimal number that argument i says; a missing argument says none.
-pub fn number_at(rt: &HostRuntime, i: usize) -> Number {
-    let mut text = room();
-    let n = arg(rt, i, &mut text);
-    number_of(&text[..n])
-}
-
-// The number that argument i says, in decimal or, after 0x, in hexadecimal.
-pub fn either_at(rt: &HostRuntime, i: usize) -> Number {
-    let mut text = room();
-    let n = arg(rt, i, &mut text);
-    either_of(&text[..n])
+    /// The number that argument i says, in decimal or, after `0x`, in hexadecimal.
+    pub fn either(&self, i: usize) -> Option<u64> {
+        let mut text = [0; ROOM];
+        either_of(self.arg(i, &mut text))
+    }
 }

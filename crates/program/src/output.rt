@@ -1,20 +1,24 @@
 // What a program writes: its answer, a new file, its usage, and its messages, each one line on standard error.
-use crate::arguments::{NAME_ROOM, named};
+// A name lies in an array: a program has no heap (docs/DECISIONS.md, reading 91).
+use crate::arguments::NAME_ROOM;
 use crate::transfer::write_all;
+use crate::{Program, Told};
 use std::fmt::InlineText;
 use std::fs;
 use std::fs::File;
-use std::io::{Error, Print, Write};
+use std::io::{Error, Write};
 
 // The longest text of an error that is told. The C library's have at most 64 bytes.
 const REASON: usize = 256;
 
-// A part of a message. A message that can't be written is lost: there is nowhere to tell it.
-fn say(rt: &HostRuntime, text: &[u8]) {
-    let _ = Print::write_all(&rt.stderr(), text);
+/// What a program writes: the bytes of a new file, if one is made, and a text.
+#[derive(Clone, Copy)]
+pub struct Output<'a> {
+    pub file: Option<&'a [u8]>,
+    pub text: &'a [u8],
 }
 
-// The system's text of an error: std puts the error's number behind it.
+/// The system's text of an error: std puts the error's number behind it.
 fn reason(text: &str) -> &str {
     match text.split_once(" (os error ") {
         Some((reason, _)) => reason,
@@ -22,127 +26,109 @@ fn reason(text: &str) -> &str {
     }
 }
 
-// A call on `what` failed with this error.
-pub(crate) fn failed(rt: &HostRuntime, name: &[u8], what: &[u8], error: Error) {
-    let text = InlineText::<REASON>::of(error);
-    told(rt, name, what, reason(text.as_str()).as_bytes());
-}
-
-// What is wrong without a call that failed.
-pub fn told(rt: &HostRuntime, name: &[u8], what: &[u8], reason: &[u8]) {
-    say(rt, name);
-    say(rt, b": ");
-    say(rt, what);
-    say(rt, b": ");
-    say(rt, reason);
-    say(rt, b"\n");
-}
-
-// Writes all of a text to a file, or tells why not. Answers whether all is written.
-fn put<W: Write>(rt: &HostRuntime, name: &[u8], to: &mut W, what: &[u8], text: &[u8]) -> bool {
-    let m = write_all(to, text);
-    if let Some(error) = m.error {
-        failed(rt, name, what, error);
-        return false;
+impl Program<'_> {
+    /// What is wrong without a call that failed. A message that can't be written is lost: there is nowhere to tell it.
+    pub fn told(&self, what: &str, reason: &str) -> Told {
+        let name = self.name;
+        let _ = eprintln!(self.rt; "{name}: {what}: {reason}");
+        Told
     }
-    if m.moved < text.len() {
-        told(rt, name, what, b"nothing more is taken");
-        return false;
-    }
-    true
-}
 
-// The answer, or a part of it, on standard output.
-pub fn print(rt: &HostRuntime, name: &[u8], text: &[u8]) {
-    put(rt, name, &mut rt.stdout(), b"standard output", text);
-}
-
-// Brings a file that was written to its disk, or tells why not: what was written may be lost then. Closing it says nothing.
-fn settle(rt: &HostRuntime, name: &[u8], file: &File, what: &[u8]) -> bool {
-    match file.sync_all() {
-        Ok(()) => true,
-        Err(error) => {
-            failed(rt, name, what, error);
-            false
-        }
-    }
-}
-
-// Writes all of a text to a file that is open, and closes it. Once a write has failed, no more is told of the file.
-fn put_and_close(rt: &HostRuntime, name: &[u8], mut file: File, what: &[u8], text: &[u8]) -> bool {
-    if !put(rt, name, &mut file, what, text) {
-        return false;
-    }
-    settle(rt, name, &file, what)
-}
-
-// Removes a file that isn't whole, or tells why not.
-fn remove(rt: &HostRuntime, name: &[u8], path: &str) {
-    if let Err(error) = fs::remove_file(rt, path) {
+    /// A call on `what` failed with this error.
+    pub(crate) fn failed(&self, what: &str, error: Error) -> Told {
         let text = InlineText::<REASON>::of(error);
-        say(rt, name);
-        say(rt, b": ");
-        say(rt, path.as_bytes());
-        say(rt, b": it is not whole, and can't be removed: ");
-        say(rt, reason(text.as_str()).as_bytes());
-        say(rt, b"\n");
+        self.told(what, reason(text.as_str()))
     }
-}
 
-// Makes the file, which must not exist yet. One that can't be written whole is removed again.
-fn make_file(rt: &HostRuntime, name: &[u8], path: &str, text: &[u8]) -> bool {
-    let opened = File::options().write(true).create_new(true).open(rt, path);
-    match opened {
-        Ok(file) => {
-            if put_and_close(rt, name, file, path.as_bytes(), text) {
-                return true;
+    /// Writes all of a text to a file, or tells why not.
+    fn put<W: Write>(&self, to: &mut W, what: &str, text: &[u8]) -> Result<(), Told> {
+        match write_all(to, text) {
+            Ok(n) if n < text.len() => Err(self.told(what, "nothing more is taken")),
+            Ok(_) => Ok(()),
+            Err(error) => Err(self.failed(what, error)),
+        }
+    }
+
+    /// The answer, or a part of it, on standard output.
+    pub fn print(&self, text: &[u8]) {
+        let _ = self.put(&mut self.rt.stdout(), "standard output", text);
+    }
+
+    /// Writes all of a text to a file that is open, brings it to its disk and closes it: what was written may be lost
+    /// before. Closing it says nothing. Once a write has failed, no more is told of the file.
+    fn put_and_close(&self, mut file: File, what: &str, text: &[u8]) -> Result<(), Told> {
+        self.put(&mut file, what, text)?;
+        file.sync_all().map_err(|error| self.failed(what, error))
+    }
+
+    /// Removes a file that isn't whole, or tells why not.
+    fn remove(&self, path: &str) {
+        if let Err(error) = fs::remove_file(self.rt, path) {
+            let text = InlineText::<REASON>::of(error);
+            let name = self.name;
+            let reason = reason(text.as_str());
+            let _ = eprintln!(self.rt;
+                "{name}: {path}: it is not whole, and can't be removed: {reason}"
+            );
+        }
+    }
+
+    /// Makes the file, which must not exist yet. One that can't be written whole is removed again.
+    fn make_file(&self, path: &str, text: &[u8]) -> Result<(), Told> {
+        let opened = File::options()
+            .write(true)
+            .create_new(true)
+            .open(self.rt, path);
+        match opened {
+            Ok(file) => {
+                let written = self.put_and_close(file, path, text);
+                if written.is_err() {
+                    self.remove(path);
+                }
+                written
             }
-            remove(rt, name, path);
-            false
-        }
-        Err(error) => {
-            failed(rt, name, path.as_bytes(), error);
-            false
+            Err(error) => Err(self.failed(path, error)),
         }
     }
-}
 
-// Whether argument i can name a new file. One that is empty, longer than a name can be or no text is told.
-pub fn names_file(rt: &HostRuntime, name: &[u8], i: usize) -> bool {
-    let mut buf = [0; NAME_ROOM];
-    match named(rt, i, &mut buf) {
-        Ok(path) => {
-            if path.is_empty() {
-                told(rt, name, b"the new file's name", b"it is empty");
-                return false;
-            }
-            true
-        }
-        Err(error) => {
-            failed(rt, name, b"the new file's name", error);
-            false
+    /// Whether argument i can name a new file. One that is empty, longer than a name can be or no text is told.
+    pub fn names_file(&self, i: usize) -> Result<(), Told> {
+        let mut buf = [0; NAME_ROOM];
+        match self.named(i, &mut buf) {
+            Ok("") => Err(self.told("the new file's name", "it is empty")),
+            Ok(_) => Ok(()),
+            Err(error) => Err(self.failed("the new file's name", error)),
         }
     }
-}
 
-// Writes a text to the new file that argument i names, and answers whether the file is there with all of it. What goes
-// wrong is told, and then a file that was made is removed. What stands under that name already is left alone.
-pub fn write_new(rt: &HostRuntime, name: &[u8], i: usize, text: &[u8]) -> bool {
-    let mut buf = [0; NAME_ROOM];
-    match named(rt, i, &mut buf) {
-        Ok(path) => make_file(rt, name, path, text),
-        Err(error) => {
-            failed(rt, name, b"the new file's name", error);
-            false
+    /// Writes a text to the new file that argument i names. What goes wrong is told, and then a file that was made is
+    /// removed. What stands under that name already is left alone.
+    fn write_new(&self, i: usize, text: &[u8]) -> Result<(), Told> {
+        let mut buf = [0; NAME_ROOM];
+        match self.named(i, &mut buf) {
+            Ok(path) => self.make_file(path, text),
+            Err(error) => Err(self.failed("the new file's name", error)),
         }
     }
-}
 
-// The usage: asked for, on standard output; after a wrong use, on standard error.
-pub fn usage(rt: &HostRuntime, name: &[u8], wrong: bool, text: &[u8]) {
-    if wrong {
-        say(rt, text);
-        return;
+    /// Writes the new file, if one is made, under the name that argument i is, and prints the text of a file that is
+    /// whole.
+    pub fn write(&self, i: usize, output: Output) -> Result<(), Told> {
+        if let Some(bytes) = output.file {
+            self.write_new(i, bytes)?;
+        }
+        self.print(output.text);
+        Ok(())
     }
-    print(rt, name, text);
+
+    /// The usage that was asked for, on standard output.
+    pub fn usage(&self) {
+        self.print(self.usage.as_bytes());
+    }
+
+    /// The usage after a wrong use, on standard error.
+    pub fn misused(&self) {
+        let usage = self.usage;
+        let _ = eprint!(self.rt; "{usage}");
+    }
 }

@@ -1,15 +1,15 @@
 -- The output, by the reading of the record, the telling's answer and the length of the log.
 use mathlib.Core.Path.{◌≡◌, refl, sym, ap, ◌∙◌}
 use mathlib.Core.List.{List, []}
-use mathlib.Core.Bool.{Bool, true, false, ◌&&◌}
+use mathlib.Core.Bool.{true, false, ◌&&◌}
 use Prim.Native.Nat.{ℕ, ◌<◌, ◌≤◌}
 use native.Mathlib.Decide.{dec_lt}
 use native.Mathlib.Omega.{arith}
-use lib.Dec.{eqb}
-use lib.ListN.{length, take, get_or}
+use lib.ListN.{length, take}
 use lib.Seq.{length-take-le}
 use borrow.Author.Tests.{lt-ltb, le-ltb}
 use Rattle.pins.proofs.Bools.{clash}
+use Rattle.std.specs.Prelude.{Result, Ok, Err}
 use Rattle.answers.specs.declared.Answer.{Answer}
 use Rattle.answers.specs.declared.Answer.TheVariants as answer
 use Rattle.answers.specs.declared.Refusal.{Refusal}
@@ -28,7 +28,7 @@ use Rattle.program.proofs.Numbers.{capped_small, capped-great}
 use Rattle.settings.specs.declared.Settings.{Settings}
 use Rattle.settings.specs.declared.Reading.{Reading}
 use Rattle.settings.specs.Settings.{standard, in_range}
-use Rattle.settings.specs.Record.{record_of, marked, form_at, settings_at, read_of}
+use Rattle.settings.specs.Record.{record_of, marked, form_at, settings_at, reading, reading_of, read_of}
 use Rattle.settings.specs.Record.{unread as refusing}
 use Rattle.settings.proofs.Ranges.{standard-in-range, read-in-range}
 use Rattle.settings.proofs.Told.{Accepted, accepted-if, bad-length, bad-mark, bad-form, bad-number}
@@ -36,7 +36,7 @@ use Rattle.settings.proofs.RoundTrip.{read-record}
 use Rattle.watch.specs.declared.Watched.{Watched}
 use Rattle.watch.specs.Watch.{text_of, watched_of, watched_out}
 use Rattle.watch.proofs.Room.{done}
-use Rattle.screen.specs.Output.{told_from, played_of, after_telling, output_from, output_of, after_reading, output_with, takes_from, takes_with, is_option}
+use Rattle.screen.specs.Output.{told_from, played_of, after_telling, output_from, output_of, after_reading, output_with, takes_from, takes_with}
 
 -- ---- a log on a mill
 
@@ -89,8 +89,8 @@ module _ (z : Settings) (pin : ℕ) (s : List ℕ) where
   unfolding after_telling
   turned_down t e r a o o' n p = whole_same (refused_of r) o o' n (output_from z pin s) (sym (ap (after_telling s t.mill) a) ∙ by_turn t e) (put_whole (refused_of r) o o' n p)
 
-  pub accepted : (t : MillTurn) → t ≡ told_from z pin → ((x : Refusal) → t.answer ≡ answer.Refused x → ⊥) → (o o' : List ℕ) (n : ℕ) → Whole (played_of s t.mill) o o' n → Whole (output_from z pin s) o o' n
-  accepted t e k o o' n w = whole_same (played_of s t.mill) o o' n (output_from z pin s) (sym (not-refused s t.mill t.answer k) ∙ by_turn t e) w
+  pub accepted : (t : MillTurn) → t ≡ told_from z pin → ((x : Refusal) → t.answer ≡ answer.Refused x → ⊥) → played_of s t.mill ≡ output_from z pin s
+  accepted t e k = sym (not-refused s t.mill t.answer k) ∙ by_turn t e
 
 -- document 01's settings
 pub by-standard : (pin : ℕ) (s : List ℕ) (z : Settings) → z ≡ standard → output_from z pin s ≡ output_of pin s
@@ -101,40 +101,31 @@ standard-ranged z e = ap in_range e ∙ standard-in-range
 
 -- ---- after the reading
 
--- every answer but a refusal
-not-rejected : (pin : ℕ) (s : List ℕ) (z : Settings) (a : Answer) → ((x : Refusal) → a ≡ answer.Refused x → ⊥) → output_from z pin s ≡ after_reading pin s z a
-unfolding after_reading
-not-rejected pin s z answer.Done k = refl
-not-rejected pin s z (answer.Value v) k = refl
-not-rejected pin s z (answer.Fired x y w) k = refl
-not-rejected pin s z (answer.Interrupt p v d l) k = refl
-not-rejected pin s z answer.Nothing k = refl
-not-rejected pin s z (answer.Refused r) k = absurd (k r refl)
+module _ (r : List ℕ) (x : Result Settings Refusal) (e : reading_of x ≡ read_of r) (pin : ℕ) where
+  module _ (z : Settings) (is : x ≡ Ok z) where
+    found : reading z answer.Done ≡ read_of r
+    found = sym (ap reading_of is) ∙ e
 
-module _ (r : List ℕ) (pin : ℕ) (s : List ℕ) (t : Reading) (e : t ≡ read_of r) where
-  pub read-ranged : in_range t.settings ≡ true
-  read-ranged = ap (λ (x : Reading). in_range x.settings) e ∙ read-in-range r
+    pub read-ranged : in_range z ≡ true
+    read-ranged = ap (λ (t : Reading). in_range t.settings) found ∙ read-in-range r
 
-  by-reading : after_reading pin s t.settings t.answer ≡ output_with r pin s
-  unfolding output_with
-  by-reading = ap (λ (x : Reading). after_reading pin s x.settings x.answer) e
+    pub settled : (s : List ℕ) → output_from z pin s ≡ output_with r pin s
+    unfolding output_with after_reading
+    settled s = ap (λ (t : Reading). after_reading pin s t.settings t.answer) found
 
-  pub rejected : (x : Refusal) → t.answer ≡ answer.Refused x → (o o' : List ℕ) (n : ℕ) → Put (settings_refused_of x) o 0 o' n → Whole (output_with r pin s) o o' n
-  unfolding after_reading
-  rejected x a o o' n p = whole_same (settings_refused_of x) o o' n (output_with r pin s) (sym (ap (after_reading pin s t.settings) a) ∙ by-reading) (put_whole (settings_refused_of x) o o' n p)
+    pub by-pin : takes_from z pin ≡ takes_with r pin
+    by-pin = ap (λ (t : Reading). is_done t.answer && takes_from t.settings pin) found
 
-  pub settled : ((x : Refusal) → t.answer ≡ answer.Refused x → ⊥) → (o o' : List ℕ) (n : ℕ) → Whole (output_from t.settings pin s) o o' n → Whole (output_with r pin s) o o' n
-  settled k o o' n w = whole_same (output_from t.settings pin s) o o' n (output_with r pin s) (not-rejected pin s t.settings t.answer k ∙ by-reading) w
+  module _ (f : Refusal) (is : x ≡ Err f) where
+    refusing-so : refusing f ≡ read_of r
+    refusing-so = sym (ap reading_of is) ∙ e
 
-module _ (r : List ℕ) (pin : ℕ) (t : Reading) (e : t ≡ read_of r) where
-  both : is_done t.answer && takes_from t.settings pin ≡ takes_with r pin
-  both = ap (λ (x : Reading). is_done x.answer && takes_from x.settings pin) e
+    pub rejected : (s : List ℕ) → settings_refused_of f ≡ output_with r pin s
+    unfolding output_with after_reading
+    rejected s = ap (λ (t : Reading). after_reading pin s t.settings t.answer) refusing-so
 
-  pub untaken : (x : Refusal) → t.answer ≡ answer.Refused x → false ≡ takes_with r pin
-  untaken x a = sym (ap (λ (y : Answer). is_done y && takes_from t.settings pin) a) ∙ both
-
-  pub by-pin : ((x : Refusal) → t.answer ≡ answer.Refused x → ⊥) → takes_from t.settings pin ≡ takes_with r pin
-  by-pin k = ap (λ (b : Bool). b && takes_from t.settings pin) (is-done t.answer k) ∙ both
+    pub untaken : false ≡ takes_with r pin
+    untaken = ap (λ (t : Reading). is_done t.answer && takes_from t.settings pin) refusing-so
 
 -- ---- what that says: any pin above 23 prints `refused 3`, whatever the log; any other prints `too long`, or the text
 
@@ -257,14 +248,3 @@ module _ (pin : ℕ) (s : List ℕ) where
 
   pub as-without : output_with (record_of standard) pin s ≡ output_of pin s
   as-without = by-record standard standard-in-range
-
--- ---- an argument
-
-module _ (a : List ℕ) where
-  pub no-option : length a ≤ 1 → false ≡ is_option a
-  unfolding is_option
-  no-option h = rw (le-ltb 1 (length a) h)
-
-  pub by-dash : 1 < length a → eqb (get_or a 0 0) 45 ≡ is_option a
-  unfolding is_option
-  by-dash h = rw (lt-ltb 1 (length a) h)

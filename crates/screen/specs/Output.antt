@@ -1,5 +1,5 @@
 -- All that the program writes for a pause pin and a log, with a settings record and without one.
-use Rattle.std.specs.Prelude.{ℕ, List, Bool, cond, ◌&&◌, ltb, eqb, length, get_or}
+use Rattle.std.specs.Prelude.{ℕ, List, Bool, cond, ◌&&◌, ltb, length}
 use Rattle.answers.specs.declared.Answer.{Answer}
 use Rattle.answers.specs.declared.Answer.TheVariants as answer
 use Rattle.answers.specs.Numbers.{is_done}
@@ -62,9 +62,3 @@ takes_from z pin = is_done (told_from z pin).answer
 
 abbrev pub takes_with : List ℕ → ℕ → Bool
 takes_with r pin = is_done (read_of r).answer && takes_from (read_of r).settings pin
-
--- ---- an argument
-
--- an option: a dash, and something behind it
-unfoldable pub is_option : List ℕ → Bool
-is_option a = ltb 1 (length a) && eqb (get_or a 0 0) 45

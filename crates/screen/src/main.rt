@@ -3,240 +3,143 @@
 //
 //     screen [--settings FILE] PIN [FILE]
 //
-// The log is the file, or standard input. The mill is reset with the settings of a record, or with document 01's. A record
-// that is refused, or a PIN above 23, is said, and no log is read. At most 65,536 bytes are taken; of a longer log the
-// program says only `too long`.
+// The log is the file, or standard input. The mill is reset with the settings of a record, or with document 01's. A
+// record that is refused, or a PIN above 23, is said, and no log is read. At most 65,536 bytes are taken; of a longer
+// log the program says only `too long`.
 #![tactic(auto)]
 
-ghost use Rattle.std.specs.Prelude.{◌≡◌, true, ◌≤◌, length};
-ghost use Rattle.lines.specs.Put.{over};
+ghost use Rattle.std.specs.Prelude.{◌≡◌, true};
 ghost use Rattle.mill.specs.Mill.{well_formed};
 ghost use Rattle.settings.specs.Settings.{in_range};
-ghost use Rattle.screen.specs.Output.{told_from, played_of, output_from, output_of, output_with, takes_from, takes_with, is_option};
+ghost use Rattle.screen.specs.Output.{told_from, played_of, output_from, output_of, output_with, takes_from, takes_with};
 
 use answers::Answer;
 use mill::{Mill, MillTurn};
+use program::Program;
 use settings::Settings;
 
 // 80 bytes for each of the 21,845 records that a log of 65,536 bytes can hold, and for the first line and the last.
-fn room() -> [u8; 1747680]
-    ensures { 1747680 ≡ length result }
-{
-    [0; 1747680]
-}
+// The text is put into an array that is lent: a program has no heap (docs/DECISIONS.md, reading 91).
+const ROOM: usize = 1747680;
 
-// A mill reset with settings, and told its pin.
+const USAGE: &str =
+    "usage: screen [--settings FILE] PIN [FILE]\nReplays an event log on a board from reset, and prints a line for each record\nand for each word of the pause screen: running, asked, taken, paused.\nPIN is the pause key's pin, a decimal number from 0 to 23.\nFILE is the log, of at most 65,536 bytes; no FILE or - is standard input.\nThe FILE of --settings is a settings record of 22 bytes, with which the board is\nreset; it is standard input for -, if the log is a file.\n";
+
+/// A mill reset with settings, and told its pin.
+// Settings, pin and log stay parameters: they come one by one, and where one is refused the next is not read.
 fn told(settings: Settings, pin: u64) -> MillTurn
     ensures { result ≡ told_from settings pin }
 {
-    let mill = Mill::reset_to(settings);
-    mill.tell(pin)
+    Mill::reset_to(settings).tell(pin)
 }
 
-// Whether the mill takes the pin: only then the log is read.
+/// Whether the mill takes the pin: only then the log is read.
+#[tactic(auto, unfolding(answers::specs::Numbers::is_done))]
 fn takes(settings: Settings, pin: u64) -> bool
     ensures { result ≡ takes_from settings pin }
 {
-    let turn = told(settings, pin);
-    let answer = turn.answer;
-    match answer {
-        Answer::Refused(refusal) => false,
-        _ => true,
-    }
+    !matches!(told(settings, pin).answer, Answer::Refused(_))
 }
 
-// What a log prints on a mill that was told its pin.
-fn played(log: &[u8], mill: Mill, out: &mut [u8]) -> usize
-    requires mill_value { well_formed mill ≡ true }
-    requires in_bounds { 1747680 ≤ length out.old }
-    ensures { (result ≡ length (played_of log.now mill)) × (out.new ≡ over (played_of log.now mill) out.old) }
+/// What a log prints on a mill that was told its pin.
+// Like `played` of `replay`, and not generic: the run would be a closure, whose contract says as much as this one's.
+fn played<'b>(log: &[u8], mill: Mill, out: &'b mut [u8; ROOM]) -> &'b [u8]
+    requires { well_formed mill ≡ true }
+    ensures { result.now ≡ played_of log.now mill }
 {
     if 65536 < log.len() {
-        return lines::too_long(out, 0);
+        let n = lines::too_long(out, 0);
+        return &out[..n];
     }
     let w = watch::watch(log, mill, out);
-    w.written
+    let n = w.written;
+    &out[..n]
 }
 
-// What a pin and a log print on a mill that is reset with settings.
-fn output_from(settings: Settings, pin: u64, log: &[u8], out: &mut [u8]) -> usize
-    requires settings_value { in_range settings ≡ true }
-    requires in_bounds { 1747680 ≤ length out.old }
-    ensures { (result ≡ length (output_from settings pin log.now)) × (out.new ≡ over (output_from settings pin log.now) out.old) }
+/// What a pin and a log print on a mill that is reset with settings.
+fn output_from<'b>(settings: Settings, pin: u64, log: &[u8], out: &'b mut [u8; ROOM]) -> &'b [u8]
+    requires { in_range settings ≡ true }
+    ensures { result.now ≡ output_from settings pin log.now }
 {
     let turn = told(settings, pin);
-    let mill = turn.mill;
-    let answer = turn.answer;
-    match answer {
-        Answer::Refused(refusal) => lines::refused(refusal, out, 0),
-        _ => played(log, mill, out),
+    match turn.answer {
+        Answer::Refused(refusal) => {
+            let n = lines::refused(refusal, out, 0);
+            &out[..n]
+        }
+        _ => played(log, turn.mill, out),
     }
 }
 
-// The whole output for a pin and a log, at the start of out.
-fn output(pin: u64, log: &[u8], out: &mut [u8]) -> usize
-    requires { 1747680 ≤ length out.old }
-    ensures { (result ≡ length (output_of pin log.now)) × (out.new ≡ over (output_of pin log.now) out.old) }
+/// The whole output for a pin and a log.
+fn output<'b>(pin: u64, log: &[u8], out: &'b mut [u8; ROOM]) -> &'b [u8]
+    ensures { result.now ≡ output_of pin log.now }
 {
-    let settings = Settings::standard();
-    output_from(settings, pin, log, out)
+    output_from(Settings::standard(), pin, log, out)
 }
 
-// The whole output for a settings record, a pin and a log, at the start of out.
-fn output_with(bytes: &[u8], pin: u64, log: &[u8], out: &mut [u8]) -> usize
-    requires { 1747680 ≤ length out.old }
-    ensures { (result ≡ length (output_with bytes.now pin log.now)) × (out.new ≡ over (output_with bytes.now pin log.now) out.old) }
+/// The whole output for a settings record, a pin and a log.
+fn output_with<'b>(bytes: &[u8], pin: u64, log: &[u8], out: &'b mut [u8; ROOM]) -> &'b [u8]
+    ensures { result.now ≡ output_with bytes.now pin log.now }
 {
-    let reading = Settings::read(bytes);
-    let settings = reading.settings;
-    let answer = reading.answer;
-    match answer {
-        Answer::Refused(refusal) => lines::setting::refused(refusal, out, 0),
-        _ => output_from(settings, pin, log, out),
+    match Settings::accepted(bytes) {
+        Ok(settings) => output_from(settings, pin, log, out),
+        Err(refusal) => {
+            let n = lines::setting::refused(refusal, out, 0);
+            &out[..n]
+        }
     }
 }
 
-// Whether the record is accepted and the mill takes the pin: only then the log is read.
+/// Whether the record is accepted and the mill takes the pin: only then the log is read.
 fn takes_with(bytes: &[u8], pin: u64) -> bool
     ensures { result ≡ takes_with bytes.now pin }
 {
-    let reading = Settings::read(bytes);
-    let settings = reading.settings;
-    let answer = reading.answer;
-    match answer {
-        Answer::Refused(refusal) => false,
-        _ => takes(settings, pin),
+    match Settings::accepted(bytes) {
+        Ok(settings) => takes(settings, pin),
+        Err(_) => false,
     }
 }
 
-fn print(rt: &HostRuntime, text: &[u8]) {
-    program::print(rt, b"screen", text);
+fn run(program: &Program, pin: u64) {
+    program.with_log(takes(Settings::standard(), pin), 2, |log| {
+        let mut out = [0; ROOM];
+        program.print(output(pin, log, &mut out));
+    });
 }
 
-fn answer(rt: &HostRuntime, pin: u64, log: &[u8]) {
-    let mut out = room();
-    let n = output(pin, log, &mut out);
-    print(rt, &out[..n]);
+/// The same with a settings record.
+fn run_with(program: &Program, pin: u64) {
+    program.with_record(2, |record| {
+        program.with_log(takes_with(record, pin), 4, |log| {
+            let mut out = [0; ROOM];
+            program.print(output_with(record, pin, log, &mut out));
+        });
+    });
 }
 
-fn answer_with(rt: &HostRuntime, bytes: &[u8], pin: u64, log: &[u8]) {
-    let mut out = room();
-    let n = output_with(bytes, pin, log, &mut out);
-    print(rt, &out[..n]);
+fn with_settings(program: &Program) {
+    match program.number(3) {
+        Some(pin) if program.two_inputs(2, 4) => run_with(program, pin),
+        _ => program.misused(),
+    }
 }
 
-// One byte more than is taken is read, to tell a longer log.
-fn run(rt: &HostRuntime, pin: u64) {
-    let mut log = [0u8; 65537];
-    if !takes(Settings::standard(), pin) {
-        answer(rt, pin, b"");
-        return;
+fn without(program: &Program) {
+    match program.number(1) {
+        Some(pin) if program.one_input(2) => run(program, pin),
+        _ => program.misused(),
     }
-    let read = program::read_input(rt, b"screen", 2, &mut log);
-    if !read.ok {
-        return;
-    }
-    let n = read.moved;
-    answer(rt, pin, &log[..n]);
 }
 
-// The same with a settings record.
-fn run_with(rt: &HostRuntime, bytes: &[u8], pin: u64) {
-    let mut log = [0u8; 65537];
-    if !takes_with(bytes, pin) {
-        answer_with(rt, bytes, pin, b"");
-        return;
-    }
-    let read = program::read_input(rt, b"screen", 4, &mut log);
-    if !read.ok {
-        return;
-    }
-    let n = read.moved;
-    answer_with(rt, bytes, pin, &log[..n]);
-}
-
-// One byte more than a record has is read, to tell a longer one.
-fn run_from(rt: &HostRuntime, pin: u64) {
-    let mut record = [0u8; 23];
-    let read = program::read_input(rt, b"screen", 2, &mut record);
-    if !read.ok {
-        return;
-    }
-    let n = read.moved;
-    run_with(rt, &record[..n], pin);
-}
-
-// Asked for, or after a wrong use.
-fn usage(rt: &HostRuntime, wrong: bool) {
-    program::usage(
-        rt,
-        b"screen",
-        wrong,
-        b"usage: screen [--settings FILE] PIN [FILE]\nReplays an event log on a board from reset, and prints a line for each record\nand for each word of the pause screen: running, asked, taken, paused.\nPIN is the pause key's pin, a decimal number from 0 to 23.\nFILE is the log, of at most 65,536 bytes; no FILE or - is standard input.\nThe FILE of --settings is a settings record of 22 bytes, with which the board is\nreset; it is standard input for -, if the log is a file.\n",
-    );
-}
-
-// Whether a text is an option: a dash, and something behind it.
-fn is_option(text: &[u8]) -> bool
-    ensures { result ≡ is_option text.now }
-{
-    if text.len() <= 1 {
-        return false;
-    }
-    text[0] == b'-'
-}
-
-fn option_at(rt: &HostRuntime, i: usize) -> bool {
-    let mut text = [0; 4096];
-    let n = program::arg(rt, i, &mut text);
-    is_option(&text[..n])
-}
-
-// Whether argument 2 names a record and argument 4 a log: they can't both be standard input.
-fn two_inputs(rt: &HostRuntime) -> bool {
-    if option_at(rt, 2) {
-        return false;
-    }
-    if program::says(rt, 2, b"-") {
-        return program::one_file(rt, 4);
-    }
-    program::one_input(rt, 4)
-}
-
-fn with_settings(rt: &HostRuntime) {
-    let pin = program::number_at(rt, 3);
-    if !pin.ok {
-        usage(rt, true);
-        return;
-    }
-    if !two_inputs(rt) {
-        usage(rt, true);
-        return;
-    }
-    run_from(rt, pin.value);
-}
-
-fn without(rt: &HostRuntime) {
-    let pin = program::number_at(rt, 1);
-    if !pin.ok {
-        usage(rt, true);
-        return;
-    }
-    if !program::one_input(rt, 2) {
-        usage(rt, true);
-        return;
-    }
-    run(rt, pin.value);
-}
-
+// Not `Program::run`, which knows no argument but the two files: PIN stands between them.
 fn main(rt: HostRuntime) {
-    if program::asks_help(&rt) {
-        usage(&rt, false);
-        return;
+    let program = Program::new(&rt, "screen", USAGE);
+    if program.asks_help() {
+        program.usage();
+    } else if program.says(1, "--settings") {
+        with_settings(&program);
+    } else {
+        without(&program);
     }
-    if program::says(&rt, 1, b"--settings") {
-        with_settings(&rt);
-        return;
-    }
-    without(&rt);
 }

@@ -1,4 +1,3 @@
-mod Copied
 pub mod Told
 pub mod Ranges
 pub mod RoundTrip

@@ -1,25 +1,25 @@
 -- The refusals of the reader and of the writer, each exactly when K6 says so, in its order.
-use mathlib.Core.Path.{◌≡◌, refl}
+use mathlib.Core.Path.{◌≡◌, refl, sym, ap, ◌∙◌}
 use mathlib.Core.Bool.{Bool, true, false, cond, not}
 use mathlib.Core.List.{List, [], ◌∷◌}
 use Prim.Native.Nat.{ℕ}
 use native.Mathlib.Omega.{arith}
 use lib.Dec.{eqb}
 use lib.ListN.{length}
-use borrow.Author.Tests.{eqb-true, eqb-false}
+use Rattle.std.proofs.lemmas.Bool.Decides.{nat_tests}
 use Rattle.answers.specs.declared.Refusal.{Refusal}
 use Rattle.answers.specs.declared.Refusal.TheVariants as refusal
 use Rattle.answers.specs.declared.Answer.{Answer}
 use Rattle.answers.specs.declared.Answer.TheVariants as answer
 use Rattle.answers.specs.Numbers.{number_of, numbers_of}
-use Rattle.answers.specs.Order.{Test, test, Given}
+use Rattle.answers.specs.Order.{Test, test, first_number, Given}
 use Rattle.answers.proofs.Order.{only_if, if, Decided, done_decided, refused-decided, later-decided}
 use Rattle.answers.proofs.Refused.{answer_number, one-result}
 use Rattle.settings.specs.declared.Settings.{Settings}
 use Rattle.settings.specs.declared.Reading.{Reading}
 use Rattle.settings.specs.Settings.{standard, in_range}
 use Rattle.settings.specs.Record.{record_of, marked, form_at, settings_at, reading, unread, read_of, read_tests, write_of, buffer_after, write_tests}
-use Rattle.settings.proofs.Told.{tested, bad-length, bad-mark, bad-form, bad-number, unwritten, no_place}
+use Rattle.settings.proofs.Told.{Accepted, accepted-if, bad-length, bad-mark, bad-form, bad-number, unwritten, no_place, written}
 
 -- ---- the reader: "Refusals, in order: 8 for any length but 22, 6 for the mark, 9 for an unknown form, 10 for a number
 -- out of range; the reader then gives 01's settings."
@@ -90,142 +90,79 @@ module _ (x : Settings) (o : List ℕ) where
 
 -- ---- the same in plain words, one refusal at a time
 
--- which tests were passed, and which was not
-module _ (x : Settings) where
-  only-8 : (l m f n : Bool) → answer_number (tested l m f n x).answer ≡ 8 → l ≡ false
-  unfolding numbers_of number_of
-  only-8 false m f n h = refl
-  only-8 true false f n h = absurd (omega arith)
-  only-8 true true false n h = absurd (omega arith)
-  only-8 true true true false h = absurd (omega arith)
-  only-8 true true true true h = absurd (omega arith)
-
-  only-6 : (l m f n : Bool) → answer_number (tested l m f n x).answer ≡ 6 → (l ≡ true) × (m ≡ false)
-  unfolding numbers_of number_of
-  only-6 false m f n h = absurd (omega arith)
-  only-6 true false f n h = (refl, refl)
-  only-6 true true false n h = absurd (omega arith)
-  only-6 true true true false h = absurd (omega arith)
-  only-6 true true true true h = absurd (omega arith)
-
-  only-9 : (l m f n : Bool) → answer_number (tested l m f n x).answer ≡ 9 → (l ≡ true) × (m ≡ true) × (f ≡ false)
-  unfolding numbers_of number_of
-  only-9 false m f n h = absurd (omega arith)
-  only-9 true false f n h = absurd (omega arith)
-  only-9 true true false n h = (refl, refl, refl)
-  only-9 true true true false h = absurd (omega arith)
-  only-9 true true true true h = absurd (omega arith)
-
-  only-10 : (l m f n : Bool) → answer_number (tested l m f n x).answer ≡ 10 → (l ≡ true) × (m ≡ true) × (f ≡ true) × (n ≡ false)
-  unfolding numbers_of number_of
-  only-10 false m f n h = absurd (omega arith)
-  only-10 true false f n h = absurd (omega arith)
-  only-10 true true false n h = absurd (omega arith)
-  only-10 true true true false h = (refl, refl, refl, refl)
-  only-10 true true true true h = absurd (omega arith)
-
-  only-0 : (l m f n : Bool) → answer_number (tested l m f n x).answer ≡ 0 → (tested l m f n x).answer ≡ answer.Done
-  unfolding numbers_of number_of
-  only-0 false m f n h = absurd (omega arith)
-  only-0 true false f n h = absurd (omega arith)
-  only-0 true true false n h = absurd (omega arith)
-  only-0 true true true false h = absurd (omega arith)
-  only-0 true true true true h = refl
-
 module _ (s : List ℕ) where
-  abbrev l : Bool
-  l = eqb (length s) 22
-
-  abbrev m : Bool
-  m = marked s
-
-  abbrev f : Bool
-  f = eqb (form_at s) 1
-
-  abbrev n : Bool
-  n = in_range (settings_at s)
-
   abbrev said : ℕ
   said = answer_number (read_of s).answer
+
+  -- which test gave a number
+  first-test : (n : ℕ) → said ≡ n → first_number (read_tests s) ≡ n
+  first-test n h = sym (read-decided s).number ∙ h
 
   -- 8: any length but 22
   pub eight-if : (length s ≡ 22 → ⊥) → read_of s ≡ unread refusal.Length
   eight-if = bad-length s
 
   pub eight-only-if : said ≡ 8 → length s ≡ 22 → ⊥
-  unfolding read_of
-  eight-only-if h = eqb-false (length s) 22 (only-8 (settings_at s) l m f n h)
+  unfolding first_number
+  eight-only-if h e = let k = first-test 8 h in grind (arith, nat_tests)
 
   -- 6: the length is right, and the mark isn't there
   pub six-if : length s ≡ 22 → marked s ≡ false → read_of s ≡ unread refusal.Mark
   six-if = bad-mark s
 
   pub six-only-if : said ≡ 6 → (length s ≡ 22) × (marked s ≡ false)
-  unfolding read_of
-  six-only-if h =
-      let t = only-6 (settings_at s) l m f n h in
-      (eqb-true (length s) 22 t.0, t.1)
+  unfolding first_number
+  six-only-if h = let k = first-test 6 h in grind (arith, nat_tests)
 
   -- 9: length and mark are right, and the form isn't 1
   pub nine-if : length s ≡ 22 → marked s ≡ true → (form_at s ≡ 1 → ⊥) → read_of s ≡ unread refusal.Form
   nine-if = bad-form s
 
   pub nine-only-if : said ≡ 9 → (length s ≡ 22) × (marked s ≡ true) × (form_at s ≡ 1 → ⊥)
-  unfolding read_of
-  nine-only-if h =
-      let t = only-9 (settings_at s) l m f n h in
-      (eqb-true (length s) 22 t.0, t.1, eqb-false (form_at s) 1 t.2)
+  unfolding first_number
+  nine-only-if h = let k = first-test 9 h in grind (arith, nat_tests)
 
   -- 10: all of these are right, and a number is out of range
   pub ten-if : length s ≡ 22 → marked s ≡ true → form_at s ≡ 1 → in_range (settings_at s) ≡ false → read_of s ≡ unread refusal.Range
   ten-if = bad-number s
 
   pub ten-only-if : said ≡ 10 → (length s ≡ 22) × (marked s ≡ true) × (form_at s ≡ 1) × (in_range (settings_at s) ≡ false)
-  unfolding read_of
-  ten-only-if h =
-      let t = only-10 (settings_at s) l m f n h in
-      (eqb-true (length s) 22 t.0, t.1, eqb-true (form_at s) 1 t.2, t.3)
+  unfolding first_number
+  ten-only-if h = let k = first-test 10 h in grind (arith, nat_tests)
 
   -- else the answer is done, and nothing beside it
   pub read_done : said ≡ 0 → (read_of s).answer ≡ answer.Done
-  unfolding read_of
-  read_done h = only-0 (settings_at s) l m f n h
+  unfolding first_number
+  read_done h =
+      let k = first-test 0 h in
+      let a : Accepted s = grind (arith, nat_tests) in
+      ap (λ (r : Reading). r.answer) (accepted-if s a)
 
 module _ (x : Settings) (o : List ℕ) where
   abbrev wrote : ℕ
   wrote = answer_number (write_of x o)
+
+  first-write-test : (n : ℕ) → wrote ≡ n → first_number (write_tests x o) ≡ n
+  first-write-test n h = sym (write-decided x o).number ∙ h
 
   -- 10: a number is out of range
   pub write-ten-if : in_range x ≡ false → (write_of x o ≡ answer.Refused refusal.Range) × (buffer_after x o ≡ o)
   write-ten-if = unwritten x o
 
   pub write-ten-only-if : wrote ≡ 10 → in_range x ≡ false
-  unfolding write_of numbers_of number_of
-  write-ten-only-if h = go (in_range x) (eqb (length o) 22) h
-    where
-      go : (r k : Bool) → answer_number (cond (not r) (answer.Refused refusal.Range) (cond (not k) (answer.Refused refusal.Length) answer.Done)) ≡ 10 → r ≡ false
-      go false k h = refl
-      go true false h = absurd (omega arith)
-      go true true h = absurd (omega arith)
+  unfolding first_number
+  write-ten-only-if h = let k = first-write-test 10 h in grind (arith, nat_tests)
 
   -- 8: all are in range, and the buffer has another length
   pub write-eight-if : in_range x ≡ true → (length o ≡ 22 → ⊥) → (write_of x o ≡ answer.Refused refusal.Length) × (buffer_after x o ≡ o)
   write-eight-if = no_place x o
 
   pub write-eight-only-if : wrote ≡ 8 → (in_range x ≡ true) × (length o ≡ 22 → ⊥)
-  unfolding write_of numbers_of number_of
-  write-eight-only-if h = let t = go (in_range x) (eqb (length o) 22) h in (t.0, eqb-false (length o) 22 t.1)
-    where
-      go : (r k : Bool) → answer_number (cond (not r) (answer.Refused refusal.Range) (cond (not k) (answer.Refused refusal.Length) answer.Done)) ≡ 8 → (r ≡ true) × (k ≡ false)
-      go false k h = absurd (omega arith)
-      go true false h = (refl, refl)
-      go true true h = absurd (omega arith)
+  unfolding first_number
+  write-eight-only-if h = let k = first-write-test 8 h in grind (arith, nat_tests)
 
   pub write_done : wrote ≡ 0 → write_of x o ≡ answer.Done
-  unfolding write_of numbers_of number_of
-  write_done h = go (in_range x) (eqb (length o) 22) h
-    where
-      go : (r k : Bool) → answer_number (cond (not r) (answer.Refused refusal.Range) (cond (not k) (answer.Refused refusal.Length) answer.Done)) ≡ 0 → cond (not r) (answer.Refused refusal.Range) (cond (not k) (answer.Refused refusal.Length) answer.Done) ≡ answer.Done
-      go false k h = absurd (omega arith)
-      go true false h = absurd (omega arith)
-      go true true h = refl
+  unfolding first_number
+  write_done h =
+      let k = first-write-test 0 h in
+      (written x o (grind (arith, nat_tests)) (grind (arith, nat_tests))).0

@@ -5,13 +5,11 @@ use mathlib.Core.Bool.{true}
 use mathlib.Core.List.{List, [], ◌∷◌, ◌++◌}
 use Prim.Native.Nat.{ℕ, ◌+◌, ◌<◌}
 use native.Mathlib.Omega.{arith}
-use lib.Dec.{eqb}
 use lib.ListN.{length, get_or}
 use lib.Seq.{ext_get_or}
-use borrow.Author.Tests.{eqb-true}
+use Rattle.std.proofs.lemmas.Bool.Decides.{nat_tests}
 use Rattle.answers.specs.declared.Answer.TheVariants as answer
 use Rattle.pins.specs.Pins.{tab}
-use Rattle.pins.proofs.Bools.{and_left, and_right}
 use Rattle.pins.proofs.Fill.{get_or-tab, length-tab}
 use Rattle.little_endian.specs.Numbers.{u16_at, u32_at, bytes16, bytes32}
 use Rattle.little_endian.proofs.Bytes.{joined16, joined32, bytes-of-u16, bytes-of-u32}
@@ -44,11 +42,11 @@ module _ (x : Settings) where
     record-numbers : settings_at (record_of x) ≡ x
     unfolding settings_at record_of u16_at u32_at bytes16 bytes32
     record-numbers =
-        let p : x.period < 4294967296 = omega (arith, r.period) in
-        let a : x.mask0 < 4294967296 = omega (arith, r.mask0) in
-        let b : x.mask1 < 4294967296 = omega (arith, r.mask1) in
-        let c : x.mask2 < 4294967296 = omega (arith, r.mask2) in
-        λ i. record { vendor = joined16 x.vendor r.vendor i; period = joined32 x.period p i; mask0 = joined32 x.mask0 a i; mask1 = joined32 x.mask1 b i; mask2 = joined32 x.mask2 c i; id = x.id }
+        let p = joined32 x.period (omega arith) in
+        let a = joined32 x.mask0 (omega arith) in
+        let b = joined32 x.mask1 (omega arith) in
+        let c = joined32 x.mask2 (omega arith) in
+        grind (arith, joined16)
 
 pub read-record : (x : Settings) → in_range x ≡ true → read_of (record_of x) ≡ reading x answer.Done
 read-record x n =
@@ -76,8 +74,8 @@ module _ (s : List ℕ) (b : Bytes s) where
   pub record-back : Accepted s → record_of (settings_at s) ≡ s
   unfolding record_of settings_at marked tab
   record-back a =
-      let m0 : get_or s 0 0 ≡ 0x5A = eqb-true (get_or s 0 0) 0x5A (and_left (eqb (get_or s 0 0) 0x5A) (eqb (get_or s 1 0) 0xC3) a.mark) in
-      let m1 : get_or s 1 0 ≡ 0xC3 = eqb-true (get_or s 1 0) 0xC3 (and_right (eqb (get_or s 0 0) 0x5A) (eqb (get_or s 1 0) 0xC3) a.mark) in
+      let m0 : get_or s 0 0 ≡ 0x5A = grind (arith, nat_tests) in
+      let m1 : get_or s 1 0 ≡ 0xC3 = grind (arith, nat_tests) in
       let v = bytes-of-u16 s 3 (b 3) (b 4) in
       (λ i. (sym m0 i ∷ sym m1 i ∷ []) ++ (sym a.form i ∷ []) ++ v i ++ word_at 5 i ++ word_at 9 i ++ word_at 13 i ++ word_at 17 i ++ (get_or s 21 0 ∷ [])) ∙ sym (bytes_of s a.long)
 

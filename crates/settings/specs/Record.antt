@@ -1,5 +1,5 @@
 -- The settings record of "Settings for each mill": its bytes, the numbers that stand in it, its reader and its writer.
-use Rattle.std.specs.Prelude.{ℕ, Bool, cond, not, ◌&&◌, List, [], ◌∷◌, ◌++◌, eqb, length, get_or}
+use Rattle.std.specs.Prelude.{ℕ, Bool, cond, Result, Ok, Err, not, ◌&&◌, List, [], ◌∷◌, ◌++◌, eqb, length, get_or}
 use Rattle.answers.specs.declared.Refusal.{Refusal}
 use Rattle.answers.specs.declared.Refusal.TheVariants as refusal
 use Rattle.answers.specs.declared.Answer.{Answer}
@@ -41,6 +41,11 @@ reading x a = record { settings = x; answer = a }
 -- "the reader then gives 01's settings"
 abbrev pub unread : Refusal → Reading
 unread r = reading standard (answer.Refused r)
+
+-- what the reader gives of the settings of an accepted record, or of why it is refused
+abbrev pub reading_of : Result Settings Refusal → Reading
+reading_of (Ok x) = reading x answer.Done
+reading_of (Err r) = unread r
 
 -- "8 for any length but 22, 6 for the mark, 9 for an unknown form, 10 for a number out of range"
 unfoldable pub read_of : List ℕ → Reading

@@ -9,12 +9,13 @@ ghost use Rattle.settings.specs.Settings.{standard, vendor_ok, period_ok, mask_o
 
 use answers::Answer;
 
-#[derive(Clone, Copy)]
+#[derive(Clone, Copy, PartialEq, Eq)]
 pub struct Settings {
     pub vendor: u16,
     // of a tick, in femtoseconds
     pub period: u32,
-    // the pins that each timer can be routed to, pin n at bit n
+    // The pins that each timer can be routed to, pin n at bit n. Three fields, and no array: a call holds the settings,
+    // and the theorems name each (`mask_of`).
     pub mask0: u32,
     pub mask1: u32,
     pub mask2: u32,
@@ -22,35 +23,40 @@ pub struct Settings {
     pub id: u8,
 }
 
-// What the reader of a record gives: its settings and done, or document 01's and the refusal.
+/// What the reader of a record gives: its settings and done, or document 01's and the refusal.
+// A struct, and no Result: a refused record has settings too (`read_of`). `Settings::accepted` gives the Result.
 #[derive(Clone, Copy)]
 pub struct Reading {
     pub settings: Settings,
     pub answer: Answer,
 }
 
-// The vendor has 16 bits.
+/// The vendor has 16 bits.
+#[tactic(auto, unfolding(crate::specs::Settings::vendor_ok))]
 pub fn vendor_ok(vendor: u32) -> bool
     ensures { result ≡ vendor_ok vendor }
 {
     vendor < Settings::VENDOR_END
 }
 
-// The period is 1 to 100,000,000.
+/// The period is 1 to 100,000,000.
+#[tactic(auto, unfolding(crate::specs::Settings::period_ok))]
 pub fn period_ok(period: u32) -> bool
     ensures { result ≡ period_ok period }
 {
-    (1 <= period) & (period <= Settings::LONGEST)
+    (1..=Settings::LONGEST).contains(&period)
 }
 
-// A mask is nonzero and below 2^24.
+/// A mask is nonzero and below 2^24.
+#[tactic(auto, unfolding(crate::specs::Settings::mask_ok))]
 pub fn mask_ok(mask: u32) -> bool
     ensures { result ≡ mask_ok mask }
 {
-    (mask != 0) & (mask < Settings::MASK_END)
+    (1..Settings::MASK_END).contains(&mask)
 }
 
-// An id is at most 15.
+/// An id is at most 15.
+#[tactic(auto, unfolding(crate::specs::Settings::id_ok))]
 pub fn id_ok(id: u8) -> bool
     ensures { result ≡ id_ok id }
 {
@@ -88,12 +94,16 @@ impl Settings {
         }
     }
 
-    // Every number is in its range.
+    /// Every number is in its range.
+    #[tactic(auto, unfolding(crate::specs::Settings::in_range))]
     pub fn in_range(self) -> bool
         ensures { result ≡ in_range self }
     {
-        let masks = mask_ok(self.mask0)
-            & (mask_ok(self.mask1) & (mask_ok(self.mask2) & id_ok(self.id)));
-        vendor_ok(self.vendor as u32) & (period_ok(self.period) & masks)
+        vendor_ok(u32::from(self.vendor))
+            && period_ok(self.period)
+            && mask_ok(self.mask0)
+            && mask_ok(self.mask1)
+            && mask_ok(self.mask2)
+            && id_ok(self.id)
     }
 }

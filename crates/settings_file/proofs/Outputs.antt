@@ -1,53 +1,40 @@
 -- What is shown and what is made, by the answers and by the tests of the numbers.
-use mathlib.Core.Path.{◌≡◌, refl, sym, ap, ◌∙◌}
-use mathlib.Core.List.{List, ◌++◌, append-nil}
-use mathlib.Core.Bool.{true, false, ◌&&◌}
-use Prim.Native.Nat.{ℕ, ◌<◌, ◌≤◌, ◌^◌}
-use native.Mathlib.Omega.{arith}
+use mathlib.Core.Path.{◌≡◌, refl, sym, ap, subst, ◌∙◌}
+use mathlib.Core.List.{List}
+use mathlib.Core.Bool.{Bool, true, false, ◌&&◌}
+use Prim.Native.Nat.{ℕ, ◌<◌, ◌^◌}
 use lib.Dec.{ltb}
-use lib.ListN.{length, drop_of_length-le}
+use lib.ListN.{length}
 use borrow.Author.Tests.{ltb-true, lt-ltb}
-use Rattle.pins.proofs.Bools.{and_left, and_right, and_both}
-use Rattle.answers.specs.declared.Answer.{Answer}
-use Rattle.answers.specs.declared.Answer.TheVariants as answer
+use Rattle.std.specs.Prelude.{Option, Some, None, Result, Ok, Err, is_some, OkIff, SomeIff}
+use Rattle.std.specs.Option.{unwrap_or}
+use Rattle.std.specs.Result.{result_ok}
+use Rattle.pins.proofs.Bools.{clash, and_left, and_right, and_both}
 use Rattle.answers.specs.declared.Refusal.{Refusal}
 use Rattle.answers.specs.declared.Refusal.TheVariants as refusal
 use Rattle.lines.specs.Put.{over, Put}
 use Rattle.lines.specs.Line.{refused_of}
 use Rattle.lines.specs.Listing.{text_of}
-use Rattle.lines.proofs.Whole.{Whole, whole_same, put_whole}
+use Rattle.lines.proofs.Whole.{whole_same, put_whole}
 use Rattle.settings.specs.declared.Settings.{Settings}
 use Rattle.settings.specs.declared.Reading.{Reading}
 use Rattle.settings.specs.Settings.{in_range}
-use Rattle.settings.specs.Record.{record_of, read_of, buffer_after}
+use Rattle.settings.specs.Record.{record_of, reading_of, read_of, buffer_after}
 use Rattle.settings.proofs.Told.{accepted-only-if, written}
 use Rattle.settings.proofs.RoundTrip.{read-record}
 use Rattle.settings_file.specs.declared.Asked.{Asked}
 use Rattle.settings_file.specs.Output.{said_of, shown_of, fits, settings_of, takes, made_of, file_of}
 
--- ---- what is said of settings, by the answer
+-- ---- what is said of a record, by what is read of it
 
-module _ (x : Settings) (o o' : List ℕ) (n : ℕ) where
-  pub said-refused : (a : Answer) (r : Refusal) → a ≡ answer.Refused r → Put (refused_of r) o 0 o' n → Whole (said_of x a) o o' n
-  unfolding said_of
-  said-refused a r e p = whole_same (refused_of r) o o' n (said_of x a) (sym (ap (said_of x) e)) (put_whole (refused_of r) o o' n p)
+module _ (s : List ℕ) (x : Result Settings Refusal) (e : reading_of x ≡ read_of s) where
+  pub text-shown : (z : Settings) → x ≡ Ok z → text_of z ≡ shown_of s
+  unfolding shown_of said_of
+  text-shown z is = ap (λ (r : Reading). said_of r.settings r.answer) (sym (ap reading_of is) ∙ e)
 
-  -- every answer but a refusal
-  not-refused : (a : Answer) → ((r : Refusal) → a ≡ answer.Refused r → ⊥) → text_of x ≡ said_of x a
-  unfolding said_of
-  not-refused answer.Done k = refl
-  not-refused (answer.Value v) k = refl
-  not-refused (answer.Fired a b c) k = refl
-  not-refused (answer.Interrupt p v d l) k = refl
-  not-refused answer.Nothing k = refl
-  not-refused (answer.Refused r) k = absurd (k r refl)
-
-  pub said-text : (a : Answer) → ((r : Refusal) → a ≡ answer.Refused r → ⊥) → Put (text_of x) o 0 o' n → Whole (said_of x a) o o' n
-  said-text a k p = whole_same (text_of x) o o' n (said_of x a) (not-refused a k) (put_whole (text_of x) o o' n p)
-
-pub shown-so : (s : List ℕ) (r : Reading) → r ≡ read_of s → said_of r.settings r.answer ≡ shown_of s
-unfolding shown_of
-shown-so s r e = ap (λ (y : Reading). said_of y.settings y.answer) e
+  pub refusal-shown : (f : Refusal) → x ≡ Err f → refused_of f ≡ shown_of s
+  unfolding shown_of said_of
+  refusal-shown f is = ap (λ (r : Reading). said_of r.settings r.answer) (sym (ap reading_of is) ∙ e)
 
 -- ---- the fields
 
@@ -91,13 +78,32 @@ so-fits a f =
     (and_both (lt-ltb a.mask1 (2 ^ 32) f.mask1)
     (and_both (lt-ltb a.mask2 (2 ^ 32) f.mask2) (lt-ltb a.id (2 ^ 8) f.id)))))
 
+-- what a conversion makes of a number that doesn't fit, and of one that fits
+pub unfit : {T E : Type 0} (r : Result T E) (P : Type 0) (v : T) (o : Option T) → o ≡ result_ok r → OkIff r P v → o ≡ None → P → ⊥
+unfit (Ok x) P v o s k n p = clash (ap is_some (sym s ∙ n))
+unfit (Err f) P v o s k n p = k p
+
+pub fit : {T E : Type 0} (r : Result T E) (P : Type 0) (v x : T) (o : Option T) → o ≡ result_ok r → OkIff r P v → o ≡ Some x → P × (x ≡ v)
+fit (Ok y) P v x o s k e = (k.0, ap (λ q. unwrap_or q v) (sym e ∙ s) ∙ k.1)
+fit (Err f) P v x o s k e = clash (ap is_some (sym e ∙ s))
+
+-- and of no settings
+pub none-so : {T : Type 0} (o : Option T) (P : Type 0) (v : T) → o ≡ None → (P → ⊥) → SomeIff o P v
+none-so o P v e n = rw e n
+
+pub some-of : {T : Type 0} (o : Option T) (P : Type 0) (v x : T) → SomeIff o P v → o ≡ Some x → P × (x ≡ v)
+some-of o P v x k e = subst (λ q. SomeIff q P v) e k
+
+pub none-of : {T : Type 0} (o : Option T) (P : Type 0) (v : T) → SomeIff o P v → o ≡ None → P → ⊥
+none-of o P v k e = subst (λ q. SomeIff q P v) e k
+
+pub not-true : (b : Bool) → (b ≡ true → ⊥) → b ≡ false
+not-true true n = absurd (n refl)
+not-true false n = refl
+
 -- ---- what is taken
 
 module _ (a : Asked) where
-  pub too_large : fits a ≡ false → false ≡ takes a
-  unfolding takes
-  too_large e = rw e
-
   pub by-range : fits a ≡ true → in_range (settings_of a) ≡ takes a
   unfolding takes
   by-range e = rw e
@@ -126,21 +132,13 @@ module _ (a : Asked) (f o o' : List ℕ) (n : ℕ) where
       ((rw e w.0, rw e w.1), (sym e, rw e, rw e))
 
   module _ (x : Settings) (s : x ≡ settings_of a) (e : takes a ≡ true) (long : length f ≡ 22) where
-    long_same : length (record_of x) ≡ 22
-    long_same = ap (λ (y : Settings). length (record_of y)) s ∙ long-record a e
-
     filed : file_of a ≡ record_of x
     unfolding file_of
     filed = rw e (ap record_of (sym s))
 
-    alone : record_of x ≡ over (record_of x) f
-    alone =
-        let few : length f ≤ length (record_of x) = omega (arith, long_same) in
-        sym (ap (λ (l : List ℕ). record_of x ++ l) (drop_of_length-le f few) ∙ append-nil (record_of x))
-
-    pub whole-made : (f' : List ℕ) → f' ≡ buffer_after x f → Put (text_of x) o 0 o' n → ((n ≡ length (made_of a)) × (o' ≡ over (made_of a) o)) × ((true ≡ takes a) × (22 ≡ length (file_of a)) × (f' ≡ over (file_of a) f))
+    pub whole-made : (f' : List ℕ) → f' ≡ buffer_after x f → Put (text_of x) o 0 o' n → ((n ≡ length (made_of a)) × (o' ≡ over (made_of a) o)) × ((true ≡ takes a) × (f' ≡ file_of a))
     unfolding made_of
     whole-made f' d p =
         let w = whole_same (text_of x) o o' n (made_of a) (rw e (ap text_of s)) (put_whole (text_of x) o o' n p) in
         let r : in_range x ≡ true = ap in_range s ∙ taken-ranged a e in
-        (w, (sym e, sym (ap length filed ∙ long_same), d ∙ (written x f r long).1 ∙ alone ∙ sym (ap (λ (l : List ℕ). over l f) filed)))
+        (w, (sym e, d ∙ (written x f r long).1 ∙ sym filed))

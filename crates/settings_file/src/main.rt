@@ -7,14 +7,21 @@
 // `refused 10`: then no file is made. OUT is made before anything is printed; what exists already is left alone.
 #![tactic(auto)]
 
-ghost use Rattle.std.specs.Prelude.{◌≡◌, true, ◌≤◌, length};
-ghost use Rattle.lines.specs.Put.{over};
-ghost use Rattle.settings_file.specs.Output.{said_of, shown_of, fits, settings_of, takes, made_of, file_of};
+ghost use Rattle.std.specs.Prelude.{◌≡◌, true, is_some, IfSome, SomeIff};
+ghost use Rattle.settings_file.specs.Output.{shown_of, fits, settings_of, takes, made_of, file_of};
 
-use answers::{Answer, Refusal};
+use answers::Refusal;
+use program::{Output, Program, Told};
 use settings::Settings;
 
-// Six numbers, as the arguments say them.
+// Room for the text of a record.
+// The text is put into an array that is lent: a program has no heap (docs/DECISIONS.md, reading 91).
+const TEXT: usize = 128;
+
+const USAGE: &str =
+    "usage: settings show [FILE]\n       settings make VENDOR PERIOD MASK0 MASK1 MASK2 ID OUT\nshow prints the settings that a record of 22 bytes has, a line for each number.\nFILE is the record; no FILE or - is standard input.\nmake writes the record of six numbers to the new file OUT, and prints the same.\nA number is decimal, or hexadecimal after 0x. VENDOR has 16 bits, PERIOD is 1 to\n100,000,000 femtoseconds, a mask is nonzero and below 2^24, ID is at most 15.\nOUT must not exist yet.\n";
+
+/// Six numbers, as the arguments say them.
 #[derive(Clone, Copy)]
 struct Asked {
     vendor: u64,
@@ -25,198 +32,126 @@ struct Asked {
     id: u64,
 }
 
-// What is written for them: whether a file is made, and how many bytes it and the text have.
-#[derive(Clone, Copy)]
-struct Sizes {
-    makes: bool,
-    file: usize,
-    text: usize,
-}
-
-// The text of settings, or why there are none.
-fn said(settings: Settings, answer: Answer, out: &mut [u8]) -> usize
-    requires { 128 ≤ length out.old }
-    ensures { (result ≡ length (said_of settings answer)) × (out.new ≡ over (said_of settings answer) out.old) }
-{
-    match answer {
-        Answer::Refused(refusal) => lines::refused(refusal, out, 0),
-        _ => lines::setting::text(settings, out, 0),
+impl Asked {
+    /// The numbers that the arguments say, if each says one.
+    fn of(program: &Program) -> Option<Asked> {
+        Some(Asked {
+            vendor: program.either(2)?,
+            period: program.either(3)?,
+            mask0: program.either(4)?,
+            mask1: program.either(5)?,
+            mask2: program.either(6)?,
+            id: program.either(7)?,
+        })
     }
 }
 
-// The whole output for a record, at the start of out.
-fn shown(bytes: &[u8], out: &mut [u8]) -> usize
-    requires { 128 ≤ length out.old }
-    ensures { (result ≡ length (shown_of bytes.now)) × (out.new ≡ over (shown_of bytes.now) out.old) }
+/// The whole output for a record.
+fn shown<'b>(bytes: &[u8], out: &'b mut [u8; TEXT]) -> &'b [u8]
+    ensures { result.now ≡ shown_of bytes.now }
 {
-    let reading = Settings::read(bytes);
-    let settings = reading.settings;
-    let answer = reading.answer;
-    said(settings, answer, out)
-}
-
-// Each number fits its field.
-fn fits(asked: Asked) -> bool
-    ensures { result ≡ fits asked }
-{
-    (asked.vendor < 0x1_0000)
-        & ((asked.period < 0x1_0000_0000)
-            & ((asked.mask0 < 0x1_0000_0000)
-                & ((asked.mask1 < 0x1_0000_0000)
-                    & ((asked.mask2 < 0x1_0000_0000) & (asked.id < 0x100)))))
-}
-
-fn settings_of(asked: Asked) -> Settings
-    requires { fits asked ≡ true }
-    ensures { result ≡ settings_of asked }
-{
-    Settings {
-        vendor: asked.vendor as u16,
-        period: asked.period as u32,
-        mask0: asked.mask0 as u32,
-        mask1: asked.mask1 as u32,
-        mask2: asked.mask2 as u32,
-        id: asked.id as u8,
-    }
-}
-
-// Each number fits its field and is in its range.
-fn takes(asked: Asked) -> bool
-    ensures { result ≡ takes asked }
-{
-    if !fits(asked) {
-        return false;
-    }
-    let settings = settings_of(asked);
-    settings.in_range()
-}
-
-// The whole output for six numbers: the bytes of the new file in file, and the text at the start of out.
-fn made(asked: Asked, file: &mut [u8], out: &mut [u8]) -> Sizes
-    requires { (length file.old ≡ 22) × (128 ≤ length out.old) }
-    ensures text_value { (result.text ≡ length (made_of asked)) × (out.new ≡ over (made_of asked) out.old) }
-    ensures makes_value { (result.makes ≡ takes asked) × (result.file ≡ length (file_of asked)) × (file.new ≡ over (file_of asked) file.old) }
-{
-    if !takes(asked) {
-        let text = lines::refused(Refusal::Range, out, 0);
-        return Sizes {
-            makes: false,
-            file: 0,
-            text,
-        };
-    }
-    let settings = settings_of(asked);
-    settings.write(file);
-    let text = lines::setting::text(settings, out, 0);
-    Sizes {
-        makes: true,
-        file: 22,
-        text,
-    }
-}
-
-fn print(rt: &HostRuntime, text: &[u8]) {
-    program::print(rt, b"settings", text);
-}
-
-fn show_record(rt: &HostRuntime, bytes: &[u8]) {
-    let mut out = [0u8; 128];
-    let n = shown(bytes, &mut out);
-    print(rt, &out[..n]);
-}
-
-// One byte more than a record has is read, to tell a longer one.
-fn show(rt: &HostRuntime) {
-    let mut record = [0u8; 23];
-    let read = program::read_input(rt, b"settings", 2, &mut record);
-    if !read.ok {
-        return;
-    }
-    let n = read.moved;
-    show_record(rt, &record[..n]);
-}
-
-// Makes the new file, or tells why not.
-fn make_file(rt: &HostRuntime, bytes: &[u8]) -> bool {
-    program::write_new(rt, b"settings", 8, bytes)
-}
-
-fn make(rt: &HostRuntime, asked: Asked) {
-    let mut file = [0u8; 22];
-    let mut out = [0u8; 128];
-    let made = made(asked, &mut file, &mut out);
-    if made.makes {
-        let n = made.file;
-        if !make_file(rt, &file[..n]) {
-            return;
+    match Settings::accepted(bytes) {
+        Ok(settings) => {
+            let n = lines::setting::text(settings, out, 0);
+            &out[..n]
+        }
+        Err(refusal) => {
+            let n = lines::refused(refusal, out, 0);
+            &out[..n]
         }
     }
-    let n = made.text;
-    print(rt, &out[..n]);
 }
 
-// Asked for, or after a wrong use.
-fn usage(rt: &HostRuntime, wrong: bool) {
-    program::usage(
-        rt,
-        b"settings",
-        wrong,
-        b"usage: settings show [FILE]\n       settings make VENDOR PERIOD MASK0 MASK1 MASK2 ID OUT\nshow prints the settings that a record of 22 bytes has, a line for each number.\nFILE is the record; no FILE or - is standard input.\nmake writes the record of six numbers to the new file OUT, and prints the same.\nA number is decimal, or hexadecimal after 0x. VENDOR has 16 bits, PERIOD is 1 to\n100,000,000 femtoseconds, a mask is nonzero and below 2^24, ID is at most 15.\nOUT must not exist yet.\n",
-    );
+/// Each number in its field, if each fits.
+fn fields(asked: Asked) -> Option<Settings>
+    ensures { SomeIff result (fits asked ≡ true) (settings_of asked) }
+{
+    Some(Settings {
+        vendor: u16::try_from(asked.vendor).ok()?,
+        period: u32::try_from(asked.period).ok()?,
+        mask0: u32::try_from(asked.mask0).ok()?,
+        mask1: u32::try_from(asked.mask1).ok()?,
+        mask2: u32::try_from(asked.mask2).ok()?,
+        id: u8::try_from(asked.id).ok()?,
+    })
 }
 
-fn shows(rt: &HostRuntime) {
-    if !program::one_input(rt, 2) {
-        usage(rt, true);
-        return;
+/// The settings of six numbers, if each fits its field and is in its range.
+fn taken(asked: Asked) -> Option<Settings>
+    ensures { SomeIff result (takes asked ≡ true) (settings_of asked) }
+{
+    let settings = fields(asked)?;
+    if !settings.in_range() {
+        return None;
     }
-    show(rt);
+    Some(settings)
 }
 
-fn makes(rt: &HostRuntime) {
-    let vendor = program::either_at(rt, 2);
-    let period = program::either_at(rt, 3);
-    let mask0 = program::either_at(rt, 4);
-    let mask1 = program::either_at(rt, 5);
-    let mask2 = program::either_at(rt, 6);
-    let id = program::either_at(rt, 7);
-    let numbers = vendor.ok & period.ok & mask0.ok & mask1.ok & mask2.ok & id.ok;
-    if !numbers {
-        usage(rt, true);
-        return;
+/// The whole output for six numbers.
+fn made<'b>(asked: Asked, file: &'b mut [u8; 22], out: &'b mut [u8; TEXT]) -> Output<'b>
+    ensures text_value { result.text.now ≡ made_of asked }
+    ensures file_value { (is_some result.file ≡ takes asked) × IfSome result.file (λ s. s.now ≡ file_of asked) }
+{
+    match taken(asked) {
+        Some(settings) => {
+            settings.write(file);
+            let n = lines::setting::text(settings, out, 0);
+            Output {
+                file: Some(file),
+                text: &out[..n],
+            }
+        }
+        None => {
+            let n = lines::refused(Refusal::Range, out, 0);
+            Output {
+                file: None,
+                text: &out[..n],
+            }
+        }
     }
-    if !program::one_file(rt, 8) {
-        usage(rt, true);
-        return;
+}
+
+/// One byte more than a record has is read, to tell a longer one.
+fn show(program: &Program) {
+    program.with_record(2, |record| {
+        let mut out = [0; TEXT];
+        program.print(shown(record, &mut out));
+    });
+}
+
+fn make(program: &Program, asked: Asked) -> Result<(), Told> {
+    program.names_file(8)?;
+    let mut file = [0; 22];
+    let mut out = [0; TEXT];
+    program.write(8, made(asked, &mut file, &mut out))
+}
+
+fn shows(program: &Program) {
+    if program.one_input(2) {
+        show(program);
+    } else {
+        program.misused();
     }
-    if !program::names_file(rt, b"settings", 8) {
-        return;
+}
+
+fn makes(program: &Program) {
+    match Asked::of(program) {
+        Some(asked) if program.one_file(8) => {
+            let _ = make(program, asked);
+        }
+        _ => program.misused(),
     }
-    make(
-        rt,
-        Asked {
-            vendor: vendor.value,
-            period: period.value,
-            mask0: mask0.value,
-            mask1: mask1.value,
-            mask2: mask2.value,
-            id: id.value,
-        },
-    );
 }
 
 fn main(rt: HostRuntime) {
-    if program::asks_help(&rt) {
-        usage(&rt, false);
-        return;
+    let program = Program::new(&rt, "settings", USAGE);
+    if program.asks_help() {
+        program.usage();
+    } else if program.says(1, "show") {
+        shows(&program);
+    } else if program.says(1, "make") {
+        makes(&program);
+    } else {
+        program.misused();
     }
-    if program::says(&rt, 1, b"show") {
-        shows(&rt);
-        return;
-    }
-    if program::says(&rt, 1, b"make") {
-        makes(&rt);
-        return;
-    }
-    usage(&rt, true);
 }

@@ -1,12 +1,18 @@
 -- A configuration put together of its bits.
-use Rattle.std.proofs.Common.{◌≡◌, ℕ, ◌+◌, ◌-◌, ◌*◌, ◌%◌, ◌^◌, ◌<◌, ◌≤◌, Bool, sym, ap, ◌∙◌, mod-eq_of_lt, mul_assoc, arith, pow-add, shl_exact}
+use Rattle.std.proofs.Common.{◌≡◌, Option, Some, None, ℕ, ◌+◌, ◌-◌, ◌*◌, ◌%◌, ◌^◌, ◌<◌, ◌≤◌, Bool, sym, ap, ◌∙◌, mod-eq_of_lt, mul_assoc, arith, pow-add, shl_exact}
 use native.Mathlib.Nat.{mul-mod_left}
+use Rattle.std.specs.Option.{SomeIff, unwrap_or}
 use lib.Bits.{bit_or, or_shifted, or_shifted_r}
 use mir.Val.{bool_byte}
 use Rattle.pins.proofs.Bools.{byte-lt}
 use Rattle.timer.specs.declared.Timer.{Timer}
 use Rattle.timer.specs.State.{flag}
 use Rattle.timer.specs.Registers.{placed, configuration_of}
+
+-- a shift by too many bits is one that gives nothing
+pub or-none : (k : ℕ) (o : Option ℕ) {x : ℕ} → SomeIff o (k < 64) x → (64 ≤ k → x ≡ 0) → unwrap_or o 0 ≡ x
+or-none k (Some y) s z = s.1
+or-none k None s z = sym (z (omega arith))
 
 -- a bit in its place
 pub placed-exact : (b : Bool) (k : ℕ) → k < 64 → bool_byte b * 2 ^ k % 2 ^ 64 ≡ bool_byte b * 2 ^ k

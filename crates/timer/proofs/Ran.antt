@@ -1,5 +1,5 @@
 -- From the machine's numbers to the closed form: what the proofs of the functions cite.
-use Rattle.std.proofs.Common.{◌≡◌, ℕ, zero, suc, ◌+◌, ◌-◌, ◌*◌, ◌/◌, ◌%◌, ◌^◌, ◌<◌, ◌≤◌, Bool, true, false, cond, sym, refl, ap, ◌∙◌, ap₂, mod-lt, add_comm, div-le_self, div-mul-le_self, arith, pow_pos}
+use Rattle.std.proofs.Common.{◌≡◌, ℕ, zero, suc, ◌+◌, ◌-◌, ◌*◌, ◌/◌, ◌%◌, ◌^◌, ◌<◌, ◌≤◌, Bool, true, false, cond, sym, refl, ap, ◌∙◌, mod-lt, add_comm, div-le_self, div-mul-le_self, arith, pow_pos}
 use native.Mathlib.Nat.{mod-add-mod, add-mod-mod}
 use native.Mathlib.Decide.{dec_le, dec_lt}
 use Rattle.timer.specs.declared.Timer.{Timer}
@@ -123,11 +123,3 @@ answer-some t c n d s f last next hk hn a es ef ne el en =
     let q : f ≡ times d (stride t) n = ef ∙ ap (λ (x : ℕ). times d x n) es in
     let y = some-firing d (stride t) n (λ z. ne (q ∙ z)) in
     (λ i. run ((fired-to t f s last next es ne el en ∙ ap (closed t) q) i) (q i) (sym (begins-late d n y.due) i)) ∙ ran-closed t c d n hk a hn
-
--- status and comparator as the code chooses them
-pub fired-code : (t : Timer) (next x k st : ℕ) → next < 2 ^ 64 → x ≡ reduced (narrowed t) next → k ≡ cond (flag t.periodic) x t.comparator → st ≡ cond (flag t.level_type) 1 t.status → with_status (with_comparator t k) st ≡ fired_to t next
-fired-code t next x k st l ex ek es =
-    ap₂ (λ (a b : ℕ). with_status (with_comparator t a) b) (ek ∙ ap (λ (z : ℕ). cond (flag t.periodic) z t.comparator) (ex ∙ reduced-mod (narrowed t) next l)) es
-
-pub stride-code : (t : Timer) (x r : ℕ) → t.period < 2 ^ 64 → x ≡ reduced (narrowed t) t.period → r ≡ cond (flag t.periodic) x 0 → r ≡ stride t
-stride-code t x r l ex er = er ∙ ap (λ (z : ℕ). cond (flag t.periodic) z 0) (ex ∙ reduced-mod (narrowed t) t.period l)

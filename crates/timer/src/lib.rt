@@ -15,9 +15,10 @@ ghost use Rattle.timer.specs.Closed.{times};
 
 use settings::Settings;
 
-// Flags are 0 or 1: any other value is a state that is not well formed. No byte of it is padding.
+// Flags are numbers, 0 or 1, and no bools: any byte pattern of lent memory is a timer, and one with another value is
+// not well formed. No byte of it is padding.
 #[repr(C)]
-#[derive(Clone, Copy)]
+#[derive(Clone, Copy, Default, PartialEq, Eq)]
 pub struct Timer {
     pub comparator: u64,
     pub period: u64,
@@ -40,6 +41,7 @@ pub enum Half {
 }
 
 // A timer after many ticks: itself, how often it fired, and at which tick first, from 1 (0: not at all).
+// 0, and no Option: so `run_of` says it (specs/Alone.antt#begun), which the clause of `ran` names.
 #[derive(Clone, Copy)]
 pub struct Run {
     pub timer: Timer,
@@ -48,40 +50,36 @@ pub struct Run {
 }
 
 // x, in 32-bit mode modulo 2^32.
+#[tactic(auto, unfolding(crate::specs::State::reduced))]
 fn reduced(narrow: bool, x: u64) -> u64
     ensures { result ≡ reduced narrow x }
 {
     if narrow { x % Timer::NARROW_END } else { x }
 }
 
-// Bit k of v: a number of 64 bits has none above 63.
+/// Bit k of v: a number of 64 bits has none above 63.
 pub fn bit(v: u64, k: u32) -> u8
     ensures { result ≡ bit k v }
 {
-    if 64 <= k {
-        return 0;
-    }
-    ((v >> k) & 1) as u8
+    (v.checked_shr(k).unwrap_or(0) & 1) as u8
 }
 
-// Bit k by itself, where the flag is set; modulo 2^64, which takes a bit above 63 away.
+/// Bit k by itself, where the flag is set; modulo 2^64, which takes a bit above 63 away.
 pub fn placed(f: u8, k: u32) -> u64
     ensures { result ≡ placed k f % 2 ^ 64 }
 {
-    if 64 <= k {
-        return 0;
-    }
-    ((f == 1) as u64) << k
+    u64::from(f == 1).checked_shl(k).unwrap_or(0)
 }
 
-// How often a timer fires in n ticks whose first firing is due in d, and that then goes on by s.
+// How often a timer fires in n ticks whose first firing is due in d, and that then goes on by s. 0 is no tick and no
+// step, and stands for none in specs/Closed.antt#times too.
 fn firings(d: u64, s: u64, n: u32) -> u64
     ensures { result ≡ times d s n }
 {
     if d == 0 {
         return 0;
     }
-    let m = n as u64;
+    let m = u64::from(n);
     if m < d {
         return 0;
     }
@@ -89,18 +87,6 @@ fn firings(d: u64, s: u64, n: u32) -> u64
         return 1;
     }
     1 + (m - d) / s
-}
-
-fn choose(b: bool, x: u64, y: u64) -> u64
-    ensures { result ≡ (if b then x else y) }
-{
-    if b { x } else { y }
-}
-
-fn choose_flag(b: bool, x: u8, y: u8) -> u8
-    ensures { result ≡ (if b then x else y) }
-{
-    if b { x } else { y }
 }
 
 // The route that a write to the configuration leaves.
@@ -113,6 +99,7 @@ fn routed(mask: u32, v: u64, old: u16) -> u16
 
 impl Timer {
     // ---- the configuration register, by bit position
+    // Numbers, and no enum: the places of bits, by which the register is shifted.
 
     // 1 level type, writable
     pub const LEVEL_TYPE: u32 = 1;
@@ -144,40 +131,26 @@ impl Timer {
 
     pub const RESET_COMPARATOR: u64 = 0xFFFFFFFFFFFFFFFF;
 
-    // Every number 0.
+    /// Every number 0.
     pub fn blank() -> Timer
         ensures { result ≡ blank }
     {
-        Timer {
-            comparator: 0,
-            period: 0,
-            route: 0,
-            level_type: 0,
-            interrupt: 0,
-            periodic: 0,
-            set_comparator: 0,
-            narrow: 0,
-            status: 0,
-        }
+        Timer::default()
     }
 
-    // Everything writable 0, except the comparator and the route, which is its mask's lowest pin.
+    /// Everything writable 0, except the comparator and the route, which is its mask's lowest pin.
+    #[tactic(auto, unfolding(crate::specs::State::reset_timer))]
     pub fn reset(mask: u32) -> Timer
         ensures { result ≡ reset_timer mask }
     {
         Timer {
             comparator: Timer::RESET_COMPARATOR,
-            period: 0,
             route: mask::lowest(mask),
-            level_type: 0,
-            interrupt: 0,
-            periodic: 0,
-            set_comparator: 0,
-            narrow: 0,
-            status: 0,
+            ..Timer::blank()
         }
     }
 
+    #[tactic(auto, unfolding(crate::specs::Formed::narrow_fits))]
     fn narrow_fits(self) -> bool
         ensures { result ≡ narrow_fits self }
     {
@@ -185,8 +158,8 @@ impl Timer {
             | ((self.comparator < Timer::NARROW_END) & (self.period < Timer::NARROW_END))
     }
 
-    // With this mask. Every call tests this: a bit that is 1 only beside another is compared with it, and a mask that has
-    // the route isn't 0.
+    /// With this mask. Every call tests this: a bit that is 1 only beside another is compared with it, and a mask
+    /// that has the route isn't 0.
     pub fn well_formed(self, mask: u32) -> bool
         ensures { result ≡ timer_formed mask self }
     {

@@ -9,9 +9,10 @@ pub(crate) fn has(mask: u32, pin: u16) -> bool
     (pin < 32) & ((mask >> (pin & 31)) & 1 == 1)
 }
 
-// The lowest pin of the mask, or 24: the bit above the pins stops the count there.
+// The lowest pin of the mask, or 24: the bit above the pins stops the count there. 24 and no Option: it is what a
+// reset by such a mask leaves as the route, a number of the state (specs/State.antt#reset_timer).
 pub(crate) fn lowest(mask: u32) -> u16
     ensures { result ≡ lowest mask }
 {
-    u32::trailing_zeros((mask & 0x00FF_FFFF) + 0x0100_0000) as u16
+    ((mask & 0x00FF_FFFF) + 0x0100_0000).trailing_zeros() as u16
 }

@@ -2,10 +2,10 @@
 ghost use Rattle.std.specs.Prelude.{◌≡◌};
 ghost use Rattle.timer.specs.Registers.{configuration_of, configured_of, set_of, compared_of, half_compared_of, cleared_of};
 
-use crate::{Half, Timer, bit, choose, choose_flag, placed, reduced, routed};
+use crate::{Half, Timer, bit, placed, reduced, routed};
 
 impl Timer {
-    // What its configuration register reads, above it the timer's mask.
+    /// What its configuration register reads, above it the timer's mask.
     pub fn configuration(self, mask: u32) -> u64
         ensures { result ≡ configuration_of mask self }
     {
@@ -14,10 +14,11 @@ impl Timer {
                 | placed(self.level_type, Timer::LEVEL_TYPE));
         let high = placed(self.narrow, Timer::NARROW)
             | (placed(self.set_comparator, Timer::SET_COMPARATOR) | (low | Timer::CAPABLE));
-        ((mask as u64) << Timer::MASK) | (((self.route as u64) << Timer::ROUTE) | high)
+        (u64::from(mask) << Timer::MASK) | ((u64::from(self.route) << Timer::ROUTE) | high)
     }
 
-    // A write to its configuration register.
+    /// A write to its configuration register.
+    #[tactic(auto, unfolding(crate::specs::Registers::configured_of))]
     pub fn configured(self, mask: u32, value: u64) -> Timer
         ensures { result ≡ configured_of mask self value }
     {
@@ -31,20 +32,30 @@ impl Timer {
             level_type,
             interrupt: bit(value, Timer::INTERRUPT),
             periodic,
-            set_comparator: choose_flag(periodic == 1, bit(value, Timer::SET_COMPARATOR), 0),
+            set_comparator: if periodic == 1 {
+                bit(value, Timer::SET_COMPARATOR)
+            } else {
+                0
+            },
             narrow,
-            status: choose_flag(level_type == 1, self.status, 0),
+            status: if level_type == 1 { self.status } else { 0 },
         }
     }
 
     // A write to its comparator register that makes one number of the comparator, and one of the period.
+    #[tactic(auto, unfolding(crate::specs::Registers::set_of))]
     fn set(self, comparator: u64, period: u64) -> Timer
         ensures { result ≡ set_of self comparator period }
     {
         let x = reduced(self.narrow == 1, comparator);
+        // A copy that is written to: with a `..self` in each of the two cases a write is a sixth slower.
         let mut t = self;
         if self.periodic == 1 {
-            t.comparator = choose(self.set_comparator == 1, x, self.comparator);
+            t.comparator = if self.set_comparator == 1 {
+                x
+            } else {
+                self.comparator
+            };
             t.period = reduced(self.narrow == 1, period);
             t.set_comparator = 0;
             return t;
@@ -53,14 +64,14 @@ impl Timer {
         t
     }
 
-    // A write to its comparator register.
+    /// A write to its comparator register.
     pub fn compared(self, value: u64) -> Timer
         ensures { result ≡ compared_of self value }
     {
         self.set(value, value)
     }
 
-    // A write to a half of its comparator register: comparator and period each keep their own other half.
+    /// A write to a half of its comparator register: comparator and period each keep their own other half.
     pub fn compared_half(self, half: Half, value: u32) -> Timer
         ensures { result ≡ half_compared_of self half value }
     {
@@ -69,12 +80,11 @@ impl Timer {
         self.set(comparator, period)
     }
 
-    // A write of 1 to its status.
+    /// A write of 1 to its status.
+    #[tactic(auto, unfolding(crate::specs::Registers::cleared_of))]
     pub fn cleared(self) -> Timer
         ensures { result ≡ cleared_of self }
     {
-        let mut t = self;
-        t.status = 0;
-        t
+        Timer { status: 0, ..self }
     }
 }

@@ -5,7 +5,7 @@ ghost use Rattle.timer.specs.Inner.{raising, holding};
 ghost use Rattle.timer.specs.Alone.{run_of};
 ghost use Rattle.timer.specs.Closed.{stride, fired_to, Ahead};
 
-use crate::{Run, Timer, choose, choose_flag, firings, reduced};
+use crate::{Run, Timer, firings, reduced};
 
 impl Timer {
     // ---- a firing
@@ -14,31 +14,35 @@ impl Timer {
     fn fired_to(self, next: u64) -> Timer
         ensures { result ≡ fired_to self next }
     {
-        let mut t = self;
-        t.comparator = choose(
-            self.periodic == 1,
-            reduced(self.narrow == 1, next),
-            self.comparator,
-        );
-        t.status = choose_flag(self.level_type == 1, 1, self.status);
-        t
+        Timer {
+            comparator: if self.periodic == 1 {
+                reduced(self.narrow == 1, next)
+            } else {
+                self.comparator
+            },
+            status: if self.level_type == 1 { 1 } else { self.status },
+            ..self
+        }
     }
 
-    // Its firing is a pulse.
+    /// Its firing is a pulse.
+    #[tactic(auto, unfolding(crate::specs::Tick::pulsing))]
     pub fn pulses(self) -> bool
         ensures { result ≡ pulsing self }
     {
         !(self.level_type == 1) & (self.interrupt == 1)
     }
 
-    // Its firing raises the wire of its pin for good, in a block that is enabled.
+    /// Its firing raises the wire of its pin for good, in a block that is enabled.
+    #[tactic(auto, unfolding(crate::specs::Inner::raising))]
     pub fn raises(self) -> bool
         ensures { result ≡ raising self }
     {
         (self.level_type == 1) & (self.interrupt == 1)
     }
 
-    // It holds the wire of the pin high, in a block that is enabled.
+    /// It holds the wire of the pin high, in a block that is enabled.
+    #[tactic(auto, unfolding(crate::specs::Tick::driving))]
     pub fn drives(self, pin: u16) -> bool
         ensures { result ≡ driving self pin }
     {
@@ -46,7 +50,8 @@ impl Timer {
             & ((self.interrupt == 1) & ((self.status == 1) & (self.route == pin)))
     }
 
-    // It holds the wire of its pin high, in a block that is enabled.
+    /// It holds the wire of its pin high, in a block that is enabled.
+    #[tactic(auto, unfolding(crate::specs::Inner::holding))]
     pub fn holds(self) -> bool
         ensures { result ≡ holding self }
     {
@@ -59,24 +64,21 @@ impl Timer {
     fn distance(self, counter: u64) -> u64
         ensures { Ahead counter self result }
     {
-        reduced(
-            self.narrow == 1,
-            std::num::wrapping_sub_u64(self.comparator, counter),
-        )
+        reduced(self.narrow == 1, self.comparator.wrapping_sub(counter))
     }
 
     // How far a firing moves the comparator.
     fn stride(self) -> u64
         ensures { result ≡ stride self }
     {
-        choose(
-            self.periodic == 1,
-            reduced(self.narrow == 1, self.period),
-            0,
-        )
+        if self.periodic == 1 {
+            reduced(self.narrow == 1, self.period)
+        } else {
+            0
+        }
     }
 
-    // The ticks that follow the counter.
+    /// The ticks that follow the counter.
     pub fn ran(self, counter: u64, ticks: u32) -> Run
         ensures { result ≡ run_of self counter ticks }
     {
@@ -90,8 +92,8 @@ impl Timer {
                 first: 0,
             };
         }
-        let last = std::num::wrapping_add_u64(self.comparator, (fired - 1) * stride);
-        let next = std::num::wrapping_add_u64(last, stride);
+        let last = self.comparator.wrapping_add((fired - 1) * stride);
+        let next = last.wrapping_add(stride);
         Run {
             timer: self.fired_to(next),
             fired: fired as u32,

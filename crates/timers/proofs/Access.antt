@@ -228,14 +228,6 @@ module _ (s : Timers) (o v : ℕ) where
       x2 ≡ timer_put (mask_at s 2) (at s 2) (eqb n 2) (o % 0x20) v → with_list s (x0 ∷ x1 ∷ x2 ∷ []) ≡ timer_written s o v
   written-code l x0 x1 x2 e0 e1 e2 = (λ i. with_list s (e0 i ∷ e1 i ∷ e2 i ∷ [])) ∙ written-each l
 
--- ---- a write to a half of a timer's comparator: each timer is asked, as for the whole
-
-pub half-code :
-    (s : Timers) (o : ℕ) (f : Timer → Timer) (x0 x1 x2 : Timer) → x0 ≡ cond (eqb (numbered o) 0) (f (at s 0)) (at s 0) →
-    x1 ≡ cond (eqb (numbered o) 1) (f (at s 1)) (at s 1) → x2 ≡ cond (eqb (numbered o) 2) (f (at s 2)) (at s 2) →
-    with_list s (x0 ∷ x1 ∷ x2 ∷ []) ≡ with_timer s (numbered o) (f (at s (numbered o)))
-half-code s o f x0 x1 x2 e0 e1 e2 = (λ i. with_list s (e0 i ∷ e1 i ∷ e2 i ∷ [])) ∙ one_each s o 0 (λ i. f)
-
 -- ---- the capability register, put together of its parts
 
 pub capabilities-code :

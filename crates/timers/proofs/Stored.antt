@@ -13,7 +13,7 @@ use Rattle.timers.proofs.Access.{aligned-whole, aligned-half, read-enabled, read
 use Rattle.timers.proofs.Places.{Place, capabilities, enable, status, counter, configuration, comparator, unlisted, place, configuration-read, unlisted-write, capabilities-write}
 
 -- at width 8 the register stands at the offset
-whole_here : (w o : ℕ) → aligned w o ≡ true → w ≡ 8 → whole_at o ≡ o
+pub whole_here : (w o : ℕ) → aligned w o ≡ true → w ≡ 8 → whole_at o ≡ o
 whole_here w o a e = let z : o % 8 ≡ 0 = eqb-true (o % 8) 0 (sym (aligned-whole w o e) ∙ a) in omega arith
 
 pub shown-here : (s : Timers) (w o : ℕ) → aligned w o ≡ true → w ≡ 8 → register_of s (whole_at o) ≡ shown_of s w o

@@ -1,5 +1,6 @@
 -- The timers' part of the wire rule, and what counting and firing do to it.
-use Rattle.std.proofs.Common.{◌≡◌, ℕ, zero, suc, ◌<◌, Bool, true, false, cond, ◌&&◌, ◌||◌, eqb, sym, refl, ap, ◌∙◌, ap₂, arith, lit<, ne_eqb}
+use Rattle.std.proofs.Common.{◌≡◌, ℕ, zero, suc, ◌<◌, Bool, true, false, cond, ◌&&◌, ◌||◌, eqb, sym, refl, ap, ◌∙◌, ap₂, arith, lit<, ne_eqb, Some, None}
+use Rattle.std.specs.Option.{unwrap_or}
 use native.Mathlib.Decide.{ℕ_discrete}
 use Rattle.timer.specs.declared.Timer.{Timer}
 use Rattle.timer.specs.State.{flag}
@@ -10,7 +11,7 @@ use Rattle.timers.specs.declared.Timers.{Timers}
 use Rattle.settings.specs.declared.Settings.{Settings}
 use Rattle.timers.specs.State.{reset_to, at, is_enabled}
 use Rattle.timers.specs.Tick.{counted_of, matches_of, fired_of, drives_of, pulses_of, route_of}
-use Rattle.timers.specs.Inner.{driven_of, raises_of}
+use Rattle.timers.specs.Inner.{driven_pin, driven_of, raises_of}
 use Rattle.timers.proofs.Each.{fired-counter, fired-enabled, fired-same, fired-other}
 
 -- timer m is edge type, or has its status set: its firing moves no wire but by a pulse
@@ -50,6 +51,15 @@ module _ (s s' : Timers) (p : ℕ) (e : s'.enabled ≡ s.enabled) where
 pub reset-drives : (z : Settings) (p : ℕ) → drives_of (reset_to z) p ≡ false
 unfolding drives_of reset_to
 reset-drives z p = refl
+
+-- the pin that timer m drives, as a number
+pub driven-number : (s : Timers) (m : ℕ) → unwrap_or (driven_pin s m) 24 ≡ driven_of s m
+unfolding driven_pin driven_of
+driven-number s m = go (is_enabled s && holding (at s m))
+  where
+    go : (x : Bool) → unwrap_or (cond x (Some (at s m).route) None) 24 ≡ cond x (at s m).route 24
+    go true = refl
+    go false = refl
 
 -- of a pin below 24: it is one that a timer drives
 pub drives-pin : (s : Timers) (p : ℕ) → p < 24 → drives_of s p ≡ (eqb (driven_of s 0) p || (eqb (driven_of s 1) p || eqb (driven_of s 2) p))

@@ -1,5 +1,5 @@
 -- The same meanings as the code works them out, and what an advance of the board asks for: only inner functions cite these.
-use Rattle.std.specs.Prelude.{ℕ, zero, suc, Bool, cond, ◌&&◌, ◌==◌, nat_lt}
+use Rattle.std.specs.Prelude.{ℕ, zero, suc, Bool, cond, ◌&&◌, ◌==◌, nat_lt, Result, Ok, Err, Option, Some, None}
 use mir.Val.{bool_byte}
 use Rattle.timer.specs.declared.Timer.{Timer}
 use Rattle.timer.specs.declared.Half.{Half}
@@ -9,7 +9,9 @@ use Rattle.timer.specs.Inner.{raising, holding}
 use Rattle.timers.specs.declared.Timers.{Timers}
 use Rattle.timers.specs.declared.Ran.{Ran}
 use Rattle.timers.specs.State.{three, at, mask_at, is_enabled}
-use Rattle.timers.specs.Registers.{numbered}
+use Rattle.answers.specs.declared.Refusal.{Refusal}
+use Rattle.answers.specs.declared.Refusal.TheVariants as refusal
+use Rattle.timers.specs.Registers.{aligned, inside, numbered}
 use Rattle.timers.specs.Tick.{fires_in, ticks, firings}
 
 -- ---- many ticks
@@ -27,13 +29,23 @@ ran_of s n = ran (ticks n s) (λ m. firings m n s) (λ m. first m n s)
 
 -- ---- wires
 
--- the pin that timer m drives, or 24
+-- the pin that timer m drives, or none
+unfoldable pub driven_pin : Timers → ℕ → Option ℕ
+driven_pin s m = cond (is_enabled s && holding (at s m)) (Some (at s m).route) None
+
+-- the same as a number, 24 for none
 unfoldable pub driven_of : Timers → ℕ → ℕ
 driven_of s m = cond (is_enabled s && holding (at s m)) (at s m).route 24
 
 -- a firing level timer with its interrupt enabled holds the wire of its pin high
 unfoldable pub raises_of : Timers → ℕ → Bool
 raises_of s m = raising (at s m)
+
+-- ---- what an access is tested for
+
+-- 2 for width and alignment, then 1 for the offset
+abbrev pub tested : ℕ → ℕ → Result (Unit {0}) Refusal
+tested width offset = cond (aligned width offset) (cond (inside offset) (Ok tt) (Err refusal.Offset)) (Err refusal.Width)
 
 -- ---- registers
 

@@ -1,11 +1,12 @@
 // The window four bytes at a time: a half of a register by the rule for the whole one.
+// `width, offset, value` stay parameters, as in window.rt; `half` goes with the offset of its whole register.
 ghost use Rattle.std.specs.Prelude.{◌≡◌, ◌^◌, ◌<◌, ◌≤◌, true, ◌&&◌, if◌then◌else◌, ◌≢◌, nat_eq};
 ghost use Rattle.timer.specs.Registers.{half_compared_of};
 ghost use Rattle.timers.specs.State.{at, with_timer};
 ghost use Rattle.timers.specs.Registers.{aligned, fits, numbered, of_timer, is_comparator, half_at, whole_at, shown_of, stored_of};
 ghost use Rattle.timers.specs.Inner.{beside_of, filled_by};
 
-use crate::{Timers, put_half};
+use crate::Timers;
 use timer::Half;
 
 impl Timers {
@@ -14,9 +15,10 @@ impl Timers {
         ensures { result ≡ half_at offset }
     {
         if offset % Timers::WIDTH == 0 {
-            return Half::Low;
+            Half::Low
+        } else {
+            Half::High
         }
-        Half::High
     }
 
     // Where the register stands that an offset lies in.
@@ -27,6 +29,7 @@ impl Timers {
     }
 
     // What an access that is allowed reads.
+    #[tactic(auto, unfolding(crate::specs::Registers::shown_of), using(crate::proofs::Stored::whole_here))]
     pub(crate) fn shown(self, width: u64, offset: u64) -> u64
         requires { aligned width offset ≡ true }
         ensures { result ≡ shown_of self width offset }
@@ -41,20 +44,19 @@ impl Timers {
     // What stands beside a half that is written: at the counter and the configurations what they read. No comparator
     // comes here, and what ignores writes may show anything. `register` would do, but once it is called from here too,
     // the compiler no longer works it into the reads, and these are slower.
+    #[tactic(auto, unfolding(crate::specs::Inner::beside_of))]
     fn beside(self, offset: u64) -> u64
         ensures { result ≡ beside_of self offset }
     {
-        if offset == Timers::COUNTER {
-            return self.counter;
+        match offset {
+            Timers::COUNTER => self.counter,
+            Timers::CONFIGURATION => u64::from(self.enabled == 1),
+            Timers::TIMERS.. => {
+                let m = ((offset - Timers::TIMERS) / Timers::STEP) as usize;
+                self.at(m).configuration(self.mask_at(m))
+            }
+            _ => 0,
         }
-        if offset == Timers::CONFIGURATION {
-            return (self.enabled == 1) as u64;
-        }
-        if offset < Timers::TIMERS {
-            return 0;
-        }
-        let m = ((offset - Timers::TIMERS) / Timers::STEP) as usize;
-        self.at(m).configuration(self.mask_at(m))
     }
 
     // The number that a half write gives to the rule for the whole register.
@@ -91,17 +93,14 @@ impl Timers {
         requires { 0x100 ≤ offset }
         ensures { result ≡ with_timer self (numbered offset) (half_compared_of (at self (numbered offset)) half value) }
     {
-        let m = (offset - Timers::TIMERS) / Timers::STEP;
-        let t = self.timer;
-        let t0 = t[0];
-        let t1 = t[1];
-        let t2 = t[2];
-        let x0 = put_half(t0, m == 0, half, value);
-        let x1 = put_half(t1, m == 1, half, value);
-        let x2 = put_half(t2, m == 2, half, value);
-        let mut next = self;
-        next.timer = [x0, x1, x2];
-        next
+        let n = (offset - Timers::TIMERS) / Timers::STEP;
+        self.each(|m, _, t| {
+            if u64::from(m) == n {
+                t.compared_half(half, value)
+            } else {
+                t
+            }
+        })
     }
 
     // A write that is allowed. `written` stands here once for both widths, so that it stays a part of the call.

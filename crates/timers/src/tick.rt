@@ -1,7 +1,7 @@
 // The timers' part of the wire rule, and many ticks at once.
 ghost use Rattle.std.specs.Prelude.{◌≡◌};
 ghost use Rattle.timers.specs.Tick.{drives_of, pulses_of, route_of};
-ghost use Rattle.timers.specs.Inner.{driven_of, raises_of, ran_of};
+ghost use Rattle.timers.specs.Inner.{driven_pin, raises_of, ran_of};
 
 use crate::{Ran, Timers};
 
@@ -9,29 +9,28 @@ impl Timers {
     // ---- the timers' part of the wire rule
 
     // The block is enabled, and some timer routed to the pin has level type, interrupt enable and status.
+    #[tactic(auto, unfolding(crate::specs::Tick::drives_of))]
     pub fn drives(self, pin: u16) -> bool
         ensures { result ≡ drives_of self pin }
     {
-        let t = self.timer;
-        let t0 = t[0];
-        let t1 = t[1];
-        let t2 = t[2];
-        (self.enabled == 1) & (t0.drives(pin) | (t1.drives(pin) | t2.drives(pin)))
+        (self.enabled == 1) & self.timer.iter().any(|t| t.drives(pin))
     }
 
     // The pin whose wire timer m holds high, or none.
-    pub fn driven(self, m: usize) -> u16
-        ensures { result ≡ driven_of self m }
+    #[tactic(auto, unfolding(crate::specs::Inner::driven_pin))]
+    pub fn driven(self, m: usize) -> Option<u16>
+        ensures { result ≡ driven_pin self m }
     {
         let t = self.at(m);
         if (self.enabled == 1) & t.holds() {
-            t.route
+            Some(t.route)
         } else {
-            Timers::NO_PIN
+            None
         }
     }
 
     // Timer m's firing is a pulse: edge type with its interrupt enabled.
+    #[tactic(auto, unfolding(crate::specs::Tick::pulses_of))]
     pub fn pulses(self, m: usize) -> bool
         ensures { result ≡ pulses_of self m }
     {
@@ -39,6 +38,7 @@ impl Timers {
     }
 
     // Timer m's firing raises its wire for good: level type with its interrupt enabled.
+    #[tactic(auto, unfolding(crate::specs::Inner::raises_of))]
     pub fn raises(self, m: usize) -> bool
         ensures { result ≡ raises_of self m }
     {
@@ -46,11 +46,11 @@ impl Timers {
     }
 
     // The pin that timer m is routed to.
+    #[tactic(auto, unfolding(crate::specs::Tick::route_of))]
     pub fn route(self, m: usize) -> usize
         ensures { result ≡ route_of self m }
     {
-        let t = self.at(m);
-        t.route as usize
+        usize::from(self.at(m).route)
     }
 
     // ---- many ticks at once
@@ -65,21 +65,14 @@ impl Timers {
                 first: [0; 3],
             };
         }
-        let t = self.timer;
-        let t0 = t[0];
-        let t1 = t[1];
-        let t2 = t[2];
-        let r0 = t0.ran(self.counter, ticks);
-        let r1 = t1.ran(self.counter, ticks);
-        let r2 = t2.ran(self.counter, ticks);
-        let x0 = r0.timer;
-        let x1 = r1.timer;
-        let x2 = r2.timer;
-        let mut timers = self;
-        timers.counter = std::num::wrapping_add_u64(self.counter, ticks as u64);
-        timers.timer = [x0, x1, x2];
+        let counter = self.counter;
+        let [r0, r1, r2] = self.timer.map(|t| t.ran(counter, ticks));
         Ran {
-            timers,
+            timers: Timers {
+                counter: self.counter.wrapping_add(u64::from(ticks)),
+                timer: [r0.timer, r1.timer, r2.timer],
+                ..self
+            },
             fired: [r0.fired, r1.fired, r2.fired],
             first: [r0.first, r1.first, r2.first],
         }

@@ -4,75 +4,71 @@
 
 ghost use Rattle.std.specs.Prelude.{◌<◌};
 
+use answers::Numbers;
 use timers::{Timers, Turn};
 
-fn print(rt: &HostRuntime, n: u64) {
-    let _ = print!(rt; "{n} ");
+// What the whole register at the offset reads.
+fn value(timers: Timers, offset: u64) -> u64 {
+    Numbers::from(timers.read(Timers::WIDTH, offset).answer).value
 }
 
-fn print_count(rt: &HostRuntime, n: u32) {
-    print(rt, n as u64);
+fn set(timers: Timers, offset: u64, value: u64) -> Timers {
+    timers.write(Timers::WIDTH, offset, value).timers
 }
 
-fn value(s: Timers, offset: u64) -> u64 {
-    let r = s.read(8, offset);
-    let answer = r.answer;
-    let n = answer.numbers();
-    n.value
+// A turn's line, and the block after it.
+fn show(rt: &HostRuntime, turn: Turn) -> Timers {
+    let timers = turn.timers;
+    let n = Numbers::from(turn.answer);
+    let [f0, f1, f2] = n.fired;
+    let comparator = value(timers, Timers::TIMERS + Timers::COMPARATOR);
+    let counter = value(timers, Timers::COUNTER);
+    let _ = println!(rt; "{} {f0} {f1} {f2} {comparator} {counter}", n.number);
+    timers
 }
 
-fn show(rt: &HostRuntime, r: Turn) -> Timers {
-    let s = r.timers;
-    let answer = r.answer;
-    let n = answer.numbers();
-    let f = n.fired;
-    print_count(rt, n.number);
-    print_count(rt, f[0]);
-    print_count(rt, f[1]);
-    print_count(rt, f[2]);
-    print(rt, value(s, 0x108));
-    let counter = value(s, 0x0F0);
-    let _ = println!(rt; "{counter}");
-    s
-}
-
-fn set(s: Timers, offset: u64, value: u64) -> Timers {
-    let r = s.write(8, offset, value);
-    r.timers
-}
-
-// A timer whose configuration is at the offset, with a comparator and a period.
-fn periodic(s: Timers, offset: u64, configuration: u64, comparator: u64, period: u64) -> Timers
-    requires { offset < 0x400 }
+// Timer n with this configuration, a comparator and a period.
+fn periodic(timers: Timers, n: u64, configuration: u64, comparator: u64, period: u64) -> Timers
+    requires { n < 3 }
 {
-    let a = set(s, offset, configuration);
-    let b = set(a, offset + 8, comparator);
-    set(b, offset + 8, period)
+    let at = Timers::TIMERS + Timers::STEP * n;
+    let writes = [
+        (at, configuration),
+        (at + Timers::COMPARATOR, comparator),
+        (at + Timers::COMPARATOR, period),
+    ];
+    let mut timers = timers;
+    for (offset, value) in writes {
+        timers = set(timers, offset, value);
+    }
+    timers
 }
 
-fn enabled(s: Timers) -> Timers {
-    set(s, 0x010, 1)
+fn enabled(timers: Timers) -> Timers {
+    set(timers, Timers::CONFIGURATION, 1)
 }
 
 fn main(rt: HostRuntime) {
-    let all: u32 = 4294967295;
     // nothing due
-    show(&rt, enabled(Timers::reset()).advance(all));
+    show(&rt, enabled(Timers::reset()).advance(u32::MAX));
     // three timers of period 1, twice
-    let a = periodic(Timers::reset(), 0x100, 0x48, 1, 1);
-    let b = periodic(a, 0x120, 0x48, 1, 1);
-    let c = periodic(b, 0x140, 0x48, 1, 1);
-    let d = show(&rt, enabled(c).advance(all));
-    show(&rt, d.advance(all));
+    let mut three = Timers::reset();
+    for n in 0..3 {
+        three = periodic(three, n, 0x48, 1, 1);
+    }
+    let once = show(&rt, enabled(three).advance(u32::MAX));
+    show(&rt, once.advance(u32::MAX));
     // 32-bit mode: half a turn, and at the wrap
-    let e = periodic(Timers::reset(), 0x100, 0x148, 0x80000000, 0x80000000);
-    let f = show(&rt, enabled(e).advance(all));
-    show(&rt, f.advance(1));
+    let narrow = periodic(Timers::reset(), 0, 0x148, 0x80000000, 0x80000000);
+    let half = show(&rt, enabled(narrow).advance(u32::MAX));
+    show(&rt, half.advance(1));
     // period 0
-    let g = periodic(Timers::reset(), 0x100, 0x48, 7, 0);
-    let h = show(&rt, enabled(g).advance(all));
+    let still = periodic(Timers::reset(), 0, 0x48, 7, 0);
+    let after = show(&rt, enabled(still).advance(u32::MAX));
     // a state that is not well formed
-    let mut ill = h;
-    ill.enabled = 2;
-    show(&rt, ill.advance(all));
+    let ill = Timers {
+        enabled: 2,
+        ..after
+    };
+    show(&rt, ill.advance(u32::MAX));
 }

@@ -1,11 +1,12 @@
 // The plain engine's calls, a long advance in portions, so that it can be shown how far it is.
+// `rt`, board and ticks stay parameters: the runtime only shows how far it is, and the ticks are those of the call.
 ghost use Rattle.std.specs.Prelude.{◌≡◌, ◌≤◌, true};
 ghost use Rattle.board.specs.declared.Call.TheVariants as call;
 ghost use Rattle.board.specs.Formed.{well_formed};
 ghost use Rattle.board.specs.Step.{turn_of};
 
 use crate::progress;
-use answers::Answer;
+use answers::{Answer, Numbers};
 use board::{Board, Call, Turn};
 
 // An advance above so many ticks is shown, and cut into portions of so many.
@@ -37,12 +38,13 @@ fn in_portions(rt: &HostRuntime, b: Board, ticks: u32, record: u64) -> Turn
     let mut fired1: u32 = 0;
     let mut fired2: u32 = 0;
     let mut done: u32 = 0;
+    // No index counts here: a turn makes a whole portion of ticks, and the last one what is left.
     while done < ticks {
         progress::shown(rt, record, done, ticks);
         let portion = least(ticks - done);
         let turn = plain_advance(board, portion);
         let answer = turn.answer;
-        let numbers = answer.numbers();
+        let numbers = Numbers::from(answer);
         fired0 += numbers.fired[0];
         fired1 += numbers.fired[1];
         fired2 += numbers.fired[2];

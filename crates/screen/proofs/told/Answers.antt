@@ -5,4 +5,4 @@ use Rattle.mill.specs.Mill.{turn_of}
 use Rattle.screen.proofs.told.Goals as goal
 
 pub returns : goal.returns
-returns c = c.tell.ensures ∙ ap (λ (m : Mill). turn_of m (millcall.Tell c.args.pin)) c.reset_to-mill.ensures
+returns c = c.tell.ensures ∙ ap (λ (m : Mill). turn_of m (millcall.Tell c.args.pin)) c.reset_to.ensures

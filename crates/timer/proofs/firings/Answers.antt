@@ -7,12 +7,12 @@ pub returns-then-d-eq0 : goal.returns-then-d-eq0
 returns-then-d-eq0 c = rw c.if-d-eq0.true (sym (times-never c.args.s c.args.n))
 
 pub returns-then-m-d : goal.returns-then-m-d
-returns-then-m-d c = sym (times-early _ _ _ c.if-m-d.true)
+returns-then-m-d c = sym (times-early c.args.d c.args.s c.args.n (omega arith))
 
 pub returns-then-s-eq0 : goal.returns-then-s-eq0
 returns-then-s-eq0 c =
     let a = c.args in
-    sym (times-late a.d a.s a.n (omega arith) c.if-m-d.false ∙ rw c.if-s-eq0.true (rw div-zero refl))
+    sym (times-late a.d a.s a.n (omega arith) (omega arith) ∙ rw c.if-s-eq0.true (rw div-zero refl))
 
 pub overflow_add-result : goal.overflow_add-result
 overflow_add-result c =
@@ -22,4 +22,4 @@ overflow_add-result c =
 pub returns : goal.returns
 returns c =
     let a = c.args in
-    sym (times-late a.d a.s a.n (omega arith) c.if-m-d.false)
+    rw c.from-m.ensures (sym (times-late a.d a.s a.n (omega arith) (omega arith)))

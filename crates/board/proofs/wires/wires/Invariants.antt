@@ -3,7 +3,7 @@ use mathlib.Core.Bool.{◌||◌}
 use mathlib.Core.List.{List, ◌++◌}
 use lib.Dec.{eqb}
 use lib.ListN.{get_or, drop, replicate}
-use Prim.Native.Nat.{ℕ, ◌-◌, ◌≤◌}
+use Prim.Native.Nat.{ℕ}
 use mir.Val.{bool_byte}
 use Rattle.pins.specs.Pins.{tab}
 use Rattle.board.proofs.wires.wires.Given as goal
@@ -15,7 +15,4 @@ abbrev pub zeros : List ℕ
 zeros = replicate 24 0
 
 abbrev pub invariant-loop-i : goal.invariant-loop-i
-invariant-loop-i l = (l.i ≤ 24) × (l.levels ≡ tab (rule l.outside l.a l.b l.c) 0 l.i ++ drop l.i zeros) × (l.pin ≡ l.i)
-
-abbrev pub decreases-loop-i : goal.decreases-loop-i
-decreases-loop-i l = 24 - l.i
+invariant-loop-i l = (l.levels ≡ tab (rule l.outside l.a l.b l.c) 0 l.i ++ drop l.i zeros) × (l.pin ≡ l.i)

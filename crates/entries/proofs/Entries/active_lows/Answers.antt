@@ -1,30 +1,10 @@
-use mathlib.Core.Path.{◌≡◌, refl, ap, ◌∙◌}
-use mathlib.Core.List.{List, ◌++◌}
-use Prim.Native.Nat.{ℕ}
-use lib.ListN.{set, drop}
-use Rattle.pins.specs.Pins.{tab}
-use Rattle.pins.proofs.Fill.{fill_more, fill-all}
-use native.Mathlib.Omega.{arith}
+use lib.ListN.{get_or}
+use borrow.Author.Rules.{rules}
+use Rattle.entries.specs.Word.{active_low_of}
 use Rattle.entries.specs.Inner.{active_lows}
-use Rattle.entries.proofs.Entries.active_lows.Invariants.{at, zeros}
+use Rattle.entries.proofs.Each.{tabled}
 use Rattle.entries.proofs.Entries.active_lows.Goals as goal
-
-pub loop-i-init : goal.loop-i-init
-unfolding tab
-loop-i-init c = (omega arith, refl)
-
-pub loop-i-preserved : goal.loop-i-preserved
-loop-i-preserved c =
-    let f = at c.args.low in (
-      omega arith,
-      ap (λ (l : List ℕ). set l c.loop-i.i c.active_low.result) c.loop-i.invariant.1
-          ∙ ap (set (tab f 0 c.loop-i.i ++ drop c.loop-i.i zeros) c.loop-i.i) c.active_low.ensures
-          ∙ fill_more f c.loop-i.i zeros (omega arith),
-    )
 
 pub returns : goal.returns
 unfolding active_lows
-returns c =
-    let f = at c.args.low in
-    let full : c.loop-i.i ≡ 24 = omega arith in
-    c.loop-i.invariant.1 ∙ ap (λ (i : ℕ). tab f 0 i ++ drop i zeros) full ∙ fill-all f 24 zeros refl
+returns c = tabled (λ i. active_low_of (get_or c.args.low i 0)) (λ i y q k. (search rules, search rules)) c.from_fn.ensures.items

@@ -12,18 +12,16 @@ use Rattle.entries.proofs.Entries.edges_ok.Goals as goal
 
 pub loop-i-init : goal.loop-i-init
 unfolding all_from
-loop-i-init c = (omega arith, refl)
+loop-i-init c = refl
 
 pub loop-i-preserved : goal.loop-i-preserved
 loop-i-preserved c =
     let w = c.args.low in
-    let h = c.args.held in (
-      omega arith,
-      ap₂ (λ (x y : Bool). x && leb (get_or h c.loop-i.i 0) (bool_byte (not y))) c.loop-i.invariant.1 c.is_level.ensures ∙ all_more (fits w h) c.loop-i.i,
-    )
+    let h = c.args.held in
+    ap₂ (λ (x y : Bool). x && leb (get_or h c.loop-i.i 0) (bool_byte (not y))) c.loop-i.invariant c.is_level.ensures ∙ all_more (fits w h) c.loop-i.i
 
 pub returns : goal.returns
 unfolding edges_ok
 returns c =
     let full : c.loop-i.i ≡ 24 = omega arith in
-    c.loop-i.invariant.1 ∙ ap (all_from (fits c.args.low c.args.held) 0) full
+    c.loop-i.invariant ∙ ap (all_from (fits c.args.low c.args.held) 0) full

@@ -1,7 +1,7 @@
 use mathlib.Core.Path.{◌≡◌}
 use mathlib.Core.Bool.{Bool, not}
 use mathlib.Core.List.{List}
-use Prim.Native.Nat.{ℕ, ◌-◌, ◌≤◌}
+use Prim.Native.Nat.{ℕ}
 use lib.Dec.{leb}
 use mir.Val.{bool_byte}
 use lib.ListN.{get_or}
@@ -13,7 +13,4 @@ abbrev pub fits : List ℕ → List ℕ → ℕ → Bool
 fits w h i = leb (get_or h i 0) (bool_byte (not (level_of (get_or w i 0))))
 
 abbrev pub invariant-loop-i : goal.invariant-loop-i
-invariant-loop-i l = (l.i ≤ 24) × (l.ok ≡ all_from (fits l.low l.held) 0 l.i)
-
-abbrev pub decreases-loop-i : goal.decreases-loop-i
-decreases-loop-i l = 24 - l.i
+invariant-loop-i l = l.ok ≡ all_from (fits l.low l.held) 0 l.i

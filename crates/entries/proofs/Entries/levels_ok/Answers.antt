@@ -7,16 +7,16 @@ use native.Mathlib.Omega.{arith}
 use Rattle.entries.proofs.Entries.levels_ok.Invariants.{low-enough}
 use Rattle.entries.proofs.Entries.levels_ok.Goals as goal
 
-pub loop-i-init : goal.loop-i-init
+pub loop-level-init : goal.loop-level-init
 unfolding all_from
-loop-i-init c = (omega arith, refl)
+loop-level-init c = refl
 
-pub loop-i-preserved : goal.loop-i-preserved
-loop-i-preserved c =
-    (omega arith, ap (λ (b : Bool). b && low-enough c.args.levels c.loop-i.i) c.loop-i.invariant.1 ∙ all_more (low-enough c.args.levels) c.loop-i.i)
+pub loop-level-preserved : goal.loop-level-preserved
+loop-level-preserved c =
+    ap (λ (b : Bool). b && low-enough c.args.levels c.loop-level.level-index) c.loop-level.invariant ∙ all_more (low-enough c.args.levels) c.loop-level.level-index
 
 pub returns : goal.returns
 unfolding levels_ok
 returns c =
-    let full : c.loop-i.i ≡ 24 = omega arith in
-    c.loop-i.invariant.1 ∙ ap (all_from (low-enough c.args.levels) 0) full
+    let full : c.loop-level.level-index ≡ 24 = omega arith in
+    c.loop-level.invariant ∙ ap (all_from (low-enough c.args.levels) 0) full

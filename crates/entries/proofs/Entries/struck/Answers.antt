@@ -1,71 +1,54 @@
-use mathlib.Core.Bool.{true, ◌&&◌}
 use mathlib.Core.Path.{◌≡◌, refl, sym, ap, subst, ◌∙◌}
-use Prim.Native.Nat.{ℕ, ◌%◌, ◌<◌}
+use Prim.Native.Nat.{ℕ, ◌<◌, ◌≤◌}
 use native.Mathlib.Omega.{arith}
 use native.Mathlib.Numerals.{add-one}
-use lib.Dec.{leb, ltb}
 use lib.ListN.{get_or, length}
 use borrow.Author.Rules.{rules}
-use borrow.Author.Tests.{ltb-true, leb-true}
-use Rattle.pins.proofs.Bools.{and_left, and_right}
+use Rattle.std.specs.Prelude.{None}
 use Rattle.entries.specs.declared.Entries.{Entries}
-use Rattle.entries.specs.Strike.{struck_by, struck}
+use Rattle.entries.specs.Strike.{struck_by, struck, pin_of}
 use Rattle.entries.proofs.Sized.{Sized}
 use Rattle.entries.proofs.Strikes.{struck-sized, strike-parts, strike-rests}
 use Rattle.entries.proofs.Entries.struck.Invariants.{with-pins}
 use Rattle.entries.proofs.Entries.struck.Goals as goal
-use Rattle.entries.proofs.Entries.struck.Goals.{then-strike-p, else-strike-p}
+use Rattle.entries.proofs.Entries.struck.Goals.{then-p-lt-PINS, else-p-lt-PINS}
 
--- the pin of a strike that is one
-in-pin : (k : ℕ) → leb 256 k && ltb (k % 256) 24 ≡ true → k % 256 < 24
-in-pin k e = ltb-true (k % 256) 24 (and_right (leb 256 k) (ltb (k % 256) 24) e)
-
-pub loop-i-init : goal.loop-i-init
+pub loop-strike-init : goal.loop-strike-init
 unfolding struck
-loop-i-init c = (omega arith, refl)
+loop-strike-init c = refl
 
-pub bounds-level-p : goal.bounds-level-p
-bounds-level-p c = in-pin _ c.if-strike-p.true
+-- a strike that is none
+pub loop-strike-preserved-in_default : goal.loop-strike-preserved-in_default
+unfolding struck struck_by
+loop-strike-preserved-in_default c =
+    rw add-one (c.loop-strike.invariant ∙ sym (ap (struck_by (struck c.loop-strike.strike-index c.args.strikes c.args.self)) c.in_default.is))
 
-pub offset_bounds-low-p : goal.offset_bounds-low-p
-offset_bounds-low-p c = omega (arith, in-pin (get_or c.args.strikes c.loop-i.i 0) c.if-strike-p.true)
-
-pub bounds-low-p : goal.bounds-low-p
-bounds-low-p c = in-pin _ c.if-strike-p.true
-
-pub bounds-held-p : goal.bounds-held-p
-bounds-held-p c = in-pin _ c.if-strike-p.true
-
-pub bounds-held-p-then-strike-p : goal.bounds-held-p-then-strike-p
-bounds-held-p-then-strike-p c = in-pin _ c.if-strike-p.true
-
-pub bounds-level-p-then-strike-p : goal.bounds-level-p-then-strike-p
-bounds-level-p-then-strike-p c = in-pin _ c.if-strike-p.true
-
-pub loop-i-preserved : goal.loop-i-preserved
+pub loop-strike-preserved : goal.loop-strike-preserved
 unfolding struck
-loop-i-preserved c =
+loop-strike-preserved c =
     let sized : Sized c.args.self =
     (let low : length c.args.self.low ≡ 24 = search rules in
     let destination : length c.args.self.destination ≡ 24 = search rules in
     let level : length c.args.self.level ≡ 24 = search rules in
     let held : length c.args.self.held ≡ 24 = search rules in
     record { low = low; destination = destination; level = level; held = held }) in
-    let k = get_or c.args.strikes c.loop-i.i 0 in
-    let x = with-pins c.args.self.low c.args.self.destination c.loop-i.level c.loop-i.held in
-    let z : Sized x = subst Sized (sym c.loop-i.invariant.1) (struck-sized c.args.self sized c.loop-i.i c.args.strikes) in (
-      omega arith,
-      rw add-one
-          ((elim c.if-strike-p.branch [
-            | then-strike-p w ↦
-                rw (w.level-is, w.held-is, w.struck_held.ensures, w.struck_level.ensures)
-                (sym (strike-parts x z k (leb-true 256 k (and_left (leb 256 k) (ltb (k % 256) 24) w.if-strike-p.true)) (in-pin k w.if-strike-p.true)))
-            | else-strike-p w ↦ rw (w.level-is, w.held-is) (sym (strike-rests x z k w.if-strike-p.false))
-          ])
-          ∙ ap (λ (d : Entries). struck_by d k) c.loop-i.invariant.1),
-    )
+    let i = c.loop-strike.strike-index in
+    let k = c.in-Some.strike in
+    let x = with-pins c.args.self.low c.args.self.destination c.loop-strike.level c.loop-strike.held in
+    let z : Sized x = subst Sized (sym c.loop-strike.invariant) (struck-sized c.args.self sized i c.args.strikes) in
+    rw add-one
+    ((elim c.if-p-lt-PINS.branch [
+      | then-p-lt-PINS w ↦
+          let pin : pin_of k < 24 = subst (λ (p : ℕ). p < 24) c.pin-p.ensures w.if-p-lt-PINS.true in
+          rw (w.level-is, w.held-is, w.struck_held.ensures, w.struck_level.ensures, w.is_pulse-pulse.ensures, c.pin-p.ensures) (sym (strike-parts x z k pin))
+      | else-p-lt-PINS w ↦
+          let above : 24 ≤ pin_of k = subst (λ (p : ℕ). 24 ≤ p) c.pin-p.ensures w.if-p-lt-PINS.false in
+          rw (w.level-is, w.held-is) (sym (strike-rests x z k above))
+    ])
+    ∙ ap (struck_by x) (sym c.in-Some.is)
+    ∙ ap (λ (d : Entries). struck_by d (get_or c.args.strikes i None)) c.loop-strike.invariant)
 
 pub returns : goal.returns
 returns c =
-    let full : c.loop-i.i ≡ 3 = omega arith in
-    c.loop-i.invariant.1 ∙ ap (λ (n : ℕ). struck n c.args.strikes c.args.self) full
+    let full : c.loop-strike.strike-index ≡ 3 = omega arith in
+    c.loop-strike.invariant ∙ ap (λ (n : ℕ). struck n c.args.strikes c.args.self) full

@@ -7,16 +7,16 @@ use native.Mathlib.Omega.{arith}
 use Rattle.entries.proofs.Entries.words_ok.Invariants.{fits}
 use Rattle.entries.proofs.Entries.words_ok.Goals as goal
 
-pub loop-i-init : goal.loop-i-init
+pub loop-word-init : goal.loop-word-init
 unfolding all_from
-loop-i-init c = (omega arith, refl)
+loop-word-init c = refl
 
-pub loop-i-preserved : goal.loop-i-preserved
-loop-i-preserved c =
-    (omega arith, ap₂ ◌&&◌ c.loop-i.invariant.1 c.word_ok-ok.ensures ∙ all_more (fits c.args.low) c.loop-i.i)
+pub loop-word-preserved : goal.loop-word-preserved
+loop-word-preserved c =
+    ap₂ ◌&&◌ c.loop-word.invariant c.word_ok-ok.ensures ∙ all_more (fits c.args.low) c.loop-word.word-index
 
 pub returns : goal.returns
 unfolding words_ok
 returns c =
-    let full : c.loop-i.i ≡ 24 = omega arith in
-    c.loop-i.invariant.1 ∙ ap (all_from (fits c.args.low) 0) full
+    let full : c.loop-word.word-index ≡ 24 = omega arith in
+    c.loop-word.invariant ∙ ap (all_from (fits c.args.low) 0) full

@@ -1,10 +1,11 @@
-use mathlib.Core.Path.{◌∙◌}
-use Rattle.nataqvoju.proofs.Reset.{with-refused, with-other}
+use mathlib.Core.Path.{sym, ap, ◌∙◌}
+use Rattle.board.proofs.Served.{turn-reset}
+use Rattle.settings.specs.Record.{reading_of}
+use Rattle.nataqvoju.specs.Reset.{reset_with}
 use Rattle.nataqvoju.proofs.calls.reset_with.Goals as goal
 
-pub returns-in-Refused : goal.returns-in-Refused
-returns-in-Refused c =
-    with-refused c.args.b c.args.reading _ c.in-Refused.is
-
-pub returns-in_default : goal.returns-in_default
-returns-in_default c = c.resetting.ensures ∙ with-other c.args.b c.args.reading c.in_default.not-Refused
+pub returns-in-Ok : goal.returns-in-Ok
+returns-in-Ok c =
+    c.resetting.ensures
+    ∙ sym (turn-reset c.args.b c.in-Ok.settings)
+    ∙ sym (ap (λ x. reset_with c.args.b (reading_of x)) c.in-Ok.is)

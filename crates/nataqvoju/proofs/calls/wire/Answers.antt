@@ -20,4 +20,4 @@ returns c =
     formed-in b e (record { low = low; destination = destination; level = level; held = held })) in
     λ w p q r.
     let long : length c.args.b.outside ≡ 24 = search rules in
-    turn-gives _ _ _ _ (c.wire_in_place-answer.ensures ∙ (λ i. wiring_at (with_wires c.args.b (p i) (q i) (r i)) c.args.pin c.args.level) ∙ wiring-at c.args.b (formed w) long c.args.pin c.args.level) c.numbers.ensures
+    turn-gives _ _ _ _ (c.wire_in_place.ensures ∙ (λ i. wiring_at (with_wires c.args.b (p i) (q i) (r i)) c.args.pin c.args.level) ∙ wiring-at c.args.b (formed w) long c.args.pin c.args.level) c.from.ensures

@@ -2,4 +2,4 @@ use Rattle.nataqvoju.proofs.Served.{turn-gives}
 use Rattle.nataqvoju.proofs.calls.write_low.Goals as goal
 
 pub returns : goal.returns
-returns c = λ b. turn-gives _ _ _ _ (c.write_in_place-answer.ensures b) c.numbers.ensures
+returns c = λ b. turn-gives _ _ _ _ (c.write_in_place.ensures b) c.from.ensures

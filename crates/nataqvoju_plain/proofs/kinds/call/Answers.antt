@@ -1,44 +1,18 @@
-use Prim.Native.Nat.{ℕ}
-use mathlib.Core.Path.{sym, ap, ◌∙◌}
-use Rattle.settings.specs.declared.Settings.{Settings}
-use Rattle.board.specs.declared.Call.TheVariants as call
-use Rattle.board.specs.Step.{turn_of}
-use borrow.Author.Tests.{ne_eqb}
-use Rattle.nataqvoju_plain.specs.Kinds.{called_of}
-use Rattle.nataqvoju_plain.specs.Lent.{out_of}
+use Rattle.std.specs.Prelude.{Err}
+use mathlib.Core.Path.{◌≡◌, sym, ap, ◌∙◌}
+use Rattle.nataqvoju_plain.proofs.Named.{answered, named-answers}
 use Rattle.nataqvoju_plain.proofs.kinds.call.Goals as goal
 
-pub returns-then-kind-eq-READ : goal.returns-then-kind-eq-READ
-unfolding called_of
-returns-then-kind-eq-READ c = c.out.ensures ∙ ap out_of c.step.ensures ∙ sym (ap (λ (k : ℕ). out_of (called_of c.args.b k c.args.p c.args.q c.args.r c.args.s)) c.if-kind-eq-READ.true)
+pub returns-in-Ok : goal.returns-in-Ok
+returns-in-Ok c =
+    c.step.ensures ∙ ap (answered c.args.b) (sym c.in-Ok.is ∙ c.named.ensures) ∙ named-answers c.args.b c.args.numbers
 
-pub returns-then-kind-eq-WRITE : goal.returns-then-kind-eq-WRITE
-unfolding called_of
-returns-then-kind-eq-WRITE c = c.out-then-kind-eq-WRITE.ensures ∙ ap out_of c.step-then-kind-eq-WRITE.ensures ∙ sym (ap (λ (k : ℕ). out_of (called_of c.args.b k c.args.p c.args.q c.args.r c.args.s)) c.if-kind-eq-WRITE.true)
+pub returns-then-well_formed : goal.returns-then-well_formed
+returns-then-well_formed c =
+    let is : c.refused.result ≡ answered c.args.b (Err c.in-Err.refusal) = rw (sym c.well_formed-in-Err.ensures ∙ c.if-well_formed.true) c.refused.ensures in
+    is ∙ ap (answered c.args.b) (sym c.in-Err.is ∙ c.named.ensures) ∙ named-answers c.args.b c.args.numbers
 
-pub returns-then-kind-eq-WIRE : goal.returns-then-kind-eq-WIRE
-unfolding called_of
-returns-then-kind-eq-WIRE c = c.out-then-kind-eq-WIRE.ensures ∙ ap out_of c.step-then-kind-eq-WIRE.ensures ∙ sym (ap (λ (k : ℕ). out_of (called_of c.args.b k c.args.p c.args.q c.args.r c.args.s)) c.if-kind-eq-WIRE.true)
-
-pub returns-then-kind-eq-END : goal.returns-then-kind-eq-END
-unfolding called_of
-returns-then-kind-eq-END c = c.out-then-kind-eq-END.ensures ∙ ap out_of c.step-then-kind-eq-END.ensures ∙ sym (ap (λ (k : ℕ). out_of (called_of c.args.b k c.args.p c.args.q c.args.r c.args.s)) c.if-kind-eq-END.true)
-
-pub returns-then-kind-eq-ADVANCE : goal.returns-then-kind-eq-ADVANCE
-unfolding called_of
-returns-then-kind-eq-ADVANCE c = c.out-then-kind-eq-ADVANCE.ensures ∙ ap out_of c.step-then-kind-eq-ADVANCE.ensures ∙ sym (ap (λ (k : ℕ). out_of (called_of c.args.b k c.args.p c.args.q c.args.r c.args.s)) c.if-kind-eq-ADVANCE.true)
-
-pub returns-then-kind-eq-DELIVER : goal.returns-then-kind-eq-DELIVER
-unfolding called_of
-returns-then-kind-eq-DELIVER c = c.out-then-kind-eq-DELIVER.ensures ∙ ap out_of c.step-then-kind-eq-DELIVER.ensures ∙ sym (ap (λ (k : ℕ). out_of (called_of c.args.b k c.args.p c.args.q c.args.r c.args.s)) c.if-kind-eq-DELIVER.true)
-
-pub returns-then-kind-eq-RESET : goal.returns-then-kind-eq-RESET
-unfolding called_of
-returns-then-kind-eq-RESET c =
-    c.out-then-kind-eq-RESET.ensures
-    ∙ ap out_of (c.step-then-kind-eq-RESET.ensures ∙ ap (λ (z : Settings). turn_of c.args.b (call.Reset z)) c.standard-settings.ensures)
-    ∙ sym (ap (λ (k : ℕ). out_of (called_of c.args.b k c.args.p c.args.q c.args.r c.args.s)) c.if-kind-eq-RESET.true)
-
-pub returns : goal.returns
-unfolding called_of
-returns c = rw (ne_eqb c.args.kind 1 c.if-kind-eq-READ.false, ne_eqb c.args.kind 2 c.if-kind-eq-WRITE.false, ne_eqb c.args.kind 3 c.if-kind-eq-WIRE.false, ne_eqb c.args.kind 4 c.if-kind-eq-END.false, ne_eqb c.args.kind 5 c.if-kind-eq-ADVANCE.false, ne_eqb c.args.kind 6 c.if-kind-eq-DELIVER.false, ne_eqb c.args.kind 7 c.if-kind-eq-RESET.false) (c.out-2.ensures ∙ ap out_of c.unknown.ensures)
+pub returns-else-well_formed : goal.returns-else-well_formed
+returns-else-well_formed c =
+    let is : c.refused-else-well_formed.result ≡ answered c.args.b (Err c.in-Err.refusal) = rw (sym c.well_formed-in-Err.ensures ∙ c.if-well_formed.false) c.refused-else-well_formed.ensures in
+    is ∙ ap (answered c.args.b) (sym c.in-Err.is ∙ c.named.ensures) ∙ named-answers c.args.b c.args.numbers

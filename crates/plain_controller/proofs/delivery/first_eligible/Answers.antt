@@ -1,23 +1,22 @@
-use mathlib.Core.Path.{refl, sym, ◌∙◌}
+use mathlib.Core.Path.{◌≡◌, sym, ◌∙◌}
 use native.Mathlib.Omega.{arith}
 use Rattle.pins.proofs.Scan.{scan-next, scan-here, scan-end}
 use Rattle.entries.specs.Table.{first_eligible}
 use Rattle.plain_controller.proofs.delivery.first_eligible.Goals as goal
 
-pub loop-i-init : goal.loop-i-init
-loop-i-init c = (omega arith, refl)
-
-pub returns-then-eligible : goal.returns-then-eligible
+pub returns-then-eligible-clause-lowest : goal.returns-then-eligible-clause-lowest
 unfolding first_eligible
-returns-then-eligible c =
+returns-then-eligible-clause-lowest c =
     let waits = sym c.eligible.ensures ∙ c.if-eligible.true in
-    sym (c.loop-i.invariant.1 ∙ scan-here _ 24 c.loop-i.i c.loop-i-test.true waits)
+    sym (c.loop-i.invariant ∙ scan-here _ 24 c.loop-i.i (omega arith) waits)
 
 pub loop-i-preserved : goal.loop-i-preserved
 loop-i-preserved c =
     let rests = sym c.eligible.ensures ∙ c.if-eligible.false in
-    (omega arith, c.loop-i.invariant.1 ∙ scan-next _ 24 c.loop-i.i c.loop-i-test.true rests)
+    c.loop-i.invariant ∙ scan-next _ 24 c.loop-i.i (omega arith) rests
 
-pub returns : goal.returns
+pub returns-clause-lowest : goal.returns-clause-lowest
 unfolding first_eligible
-returns c = sym (c.loop-i.invariant.1 ∙ scan-end _ 24 c.loop-i.i c.loop-i-test.false)
+returns-clause-lowest c =
+    let full : 24 ≡ c.loop-i.i = omega arith in
+    full ∙ sym (c.loop-i.invariant ∙ scan-end _ 24 c.loop-i.i (omega arith))

@@ -7,9 +7,9 @@ use Rattle.timer.proofs.Half.replaced.Goals as goal
 pub returns-in-Low : goal.returns-in-Low
 returns-in-Low c =
     let a = c.args in
-    low-code a.x a.value (omega arith) (omega arith) ∙ sym (ap (λ (h : Half). replaced h a.x a.value) c.in-Low.is)
+    rw c.from-v.ensures (low-code a.x a.value (omega arith) (omega arith)) ∙ sym (ap (λ (h : Half). replaced h a.x a.value) c.in-Low.is)
 
 pub returns-in-High : goal.returns-in-High
 returns-in-High c =
     let a = c.args in
-    high-code a.x a.value (omega arith) ∙ sym (ap (λ (h : Half). replaced h a.x a.value) c.in-High.is)
+    rw c.from-v.ensures (high-code a.x a.value (omega arith)) ∙ sym (ap (λ (h : Half). replaced h a.x a.value) c.in-High.is)

@@ -1,4 +1,4 @@
-use Rattle.std.proofs.Common.{◌^◌, ◌<◌, ap, ◌∙◌, arith}
+use Rattle.std.proofs.Common.{◌^◌, ◌<◌, refl, ap, ◌∙◌, arith}
 use Rattle.timer.specs.declared.Timer.{Timer}
 use Rattle.timer.specs.Alone.{run}
 use Rattle.timer.proofs.Ran.{answer-none, answer-some, code-some}
@@ -9,8 +9,8 @@ returns-then-fired-eq0 c = let k : c.args.self.comparator < 2 ^ 64 = omega arith
     answer-none c.args.self c.args.counter c.args.ticks c.distance-due.result c.stride-stride.result c.firings-fired.result
     k c.ranges.ticks.fits c.distance-due.ensures c.stride-stride.ensures c.firings-fired.ensures c.if-fired-eq0.true
 
-pub overflow_mul-fired : goal.overflow_mul-fired
-overflow_mul-fired c = let h = code-some _ _ _ _ c.firings-fired.ensures c.if-fired-eq0.false in
+pub overflow_mul-last : goal.overflow_mul-last
+overflow_mul-last c = let h = code-some _ _ _ _ c.firings-fired.ensures c.if-fired-eq0.false in
     omega (arith, h.far)
 
 pub overflow_cast-result : goal.overflow_cast-result
@@ -25,5 +25,5 @@ pub returns : goal.returns
 returns c = let k : c.args.self.comparator < 2 ^ 64 = omega arith in
     ap (λ (t : Timer). run t c.firings-fired.result c.distance-due.result) c.fired_to.ensures
     ∙ answer-some c.args.self c.args.counter c.args.ticks c.distance-due.result c.stride-stride.result c.firings-fired.result
-    c.wrapping_add_u64-last.result c.wrapping_add_u64-next.result k c.ranges.ticks.fits
-    c.distance-due.ensures c.stride-stride.ensures c.firings-fired.ensures c.if-fired-eq0.false c.wrapping_add_u64-last.ensures.value c.wrapping_add_u64-next.ensures.value
+    _ _ k c.ranges.ticks.fits
+    c.distance-due.ensures c.stride-stride.ensures c.firings-fired.ensures c.if-fired-eq0.false refl refl

@@ -38,15 +38,15 @@ loop-done-init c =
 
 pub overflow_add-fired0 : goal.overflow_add-fired0
 overflow_add-fired0 c =
-    omega (arith, more c.args.b (good c.args.b c.requires (search rules) (search rules) (search rules) (search rules)) c.loop-done.done c.least-portion.result c.loop-done.board c.plain_advance-turn.result c.loop-done.invariant.1 c.plain_advance-turn.ensures c.numbers-numbers.result c.numbers-numbers.ensures 0 _ (omega arith) c.loop-done.invariant.2, firings-le 0 (c.loop-done.done + c.least-portion.result) c.args.b, c.least-portion.ensures.upper_bound)
+    omega (arith, more c.args.b (good c.args.b c.requires (search rules) (search rules) (search rules) (search rules)) c.loop-done.done c.least-portion.result c.loop-done.board c.plain_advance-turn.result c.loop-done.invariant.1 c.plain_advance-turn.ensures c.from-numbers.result c.from-numbers.ensures 0 _ (omega arith) c.loop-done.invariant.2, firings-le 0 (c.loop-done.done + c.least-portion.result) c.args.b, c.least-portion.ensures.upper_bound)
 
 pub overflow_add-fired1 : goal.overflow_add-fired1
 overflow_add-fired1 c =
-    omega (arith, more c.args.b (good c.args.b c.requires (search rules) (search rules) (search rules) (search rules)) c.loop-done.done c.least-portion.result c.loop-done.board c.plain_advance-turn.result c.loop-done.invariant.1 c.plain_advance-turn.ensures c.numbers-numbers.result c.numbers-numbers.ensures 1 _ (omega arith) c.loop-done.invariant.3, firings-le 1 (c.loop-done.done + c.least-portion.result) c.args.b, c.least-portion.ensures.upper_bound)
+    omega (arith, more c.args.b (good c.args.b c.requires (search rules) (search rules) (search rules) (search rules)) c.loop-done.done c.least-portion.result c.loop-done.board c.plain_advance-turn.result c.loop-done.invariant.1 c.plain_advance-turn.ensures c.from-numbers.result c.from-numbers.ensures 1 _ (omega arith) c.loop-done.invariant.3, firings-le 1 (c.loop-done.done + c.least-portion.result) c.args.b, c.least-portion.ensures.upper_bound)
 
 pub overflow_add-fired2 : goal.overflow_add-fired2
 overflow_add-fired2 c =
-    omega (arith, more c.args.b (good c.args.b c.requires (search rules) (search rules) (search rules) (search rules)) c.loop-done.done c.least-portion.result c.loop-done.board c.plain_advance-turn.result c.loop-done.invariant.1 c.plain_advance-turn.ensures c.numbers-numbers.result c.numbers-numbers.ensures 2 _ (omega arith) c.loop-done.invariant.4, firings-le 2 (c.loop-done.done + c.least-portion.result) c.args.b, c.least-portion.ensures.upper_bound)
+    omega (arith, more c.args.b (good c.args.b c.requires (search rules) (search rules) (search rules) (search rules)) c.loop-done.done c.least-portion.result c.loop-done.board c.plain_advance-turn.result c.loop-done.invariant.1 c.plain_advance-turn.ensures c.from-numbers.result c.from-numbers.ensures 2 _ (omega arith) c.loop-done.invariant.4, firings-le 2 (c.loop-done.done + c.least-portion.result) c.args.b, c.least-portion.ensures.upper_bound)
 
 pub overflow_add-done : goal.overflow_add-done
 overflow_add-done c = omega (arith, c.least-portion.ensures.upper_bound)
@@ -59,9 +59,9 @@ pub loop-done-preserved : goal.loop-done-preserved
 loop-done-preserved c = (
   omega (arith, c.least-portion.ensures.upper_bound),
   board-on c.args.b (good c.args.b c.requires (search rules) (search rules) (search rules) (search rules)) c.loop-done.done c.least-portion.result c.loop-done.board c.plain_advance-turn.result c.loop-done.invariant.1 c.plain_advance-turn.ensures,
-  more c.args.b (good c.args.b c.requires (search rules) (search rules) (search rules) (search rules)) c.loop-done.done c.least-portion.result c.loop-done.board c.plain_advance-turn.result c.loop-done.invariant.1 c.plain_advance-turn.ensures c.numbers-numbers.result c.numbers-numbers.ensures 0 _ (omega arith) c.loop-done.invariant.2,
-  more c.args.b (good c.args.b c.requires (search rules) (search rules) (search rules) (search rules)) c.loop-done.done c.least-portion.result c.loop-done.board c.plain_advance-turn.result c.loop-done.invariant.1 c.plain_advance-turn.ensures c.numbers-numbers.result c.numbers-numbers.ensures 1 _ (omega arith) c.loop-done.invariant.3,
-  more c.args.b (good c.args.b c.requires (search rules) (search rules) (search rules) (search rules)) c.loop-done.done c.least-portion.result c.loop-done.board c.plain_advance-turn.result c.loop-done.invariant.1 c.plain_advance-turn.ensures c.numbers-numbers.result c.numbers-numbers.ensures 2 _ (omega arith) c.loop-done.invariant.4,
+  more c.args.b (good c.args.b c.requires (search rules) (search rules) (search rules) (search rules)) c.loop-done.done c.least-portion.result c.loop-done.board c.plain_advance-turn.result c.loop-done.invariant.1 c.plain_advance-turn.ensures c.from-numbers.result c.from-numbers.ensures 0 _ (omega arith) c.loop-done.invariant.2,
+  more c.args.b (good c.args.b c.requires (search rules) (search rules) (search rules) (search rules)) c.loop-done.done c.least-portion.result c.loop-done.board c.plain_advance-turn.result c.loop-done.invariant.1 c.plain_advance-turn.ensures c.from-numbers.result c.from-numbers.ensures 1 _ (omega arith) c.loop-done.invariant.3,
+  more c.args.b (good c.args.b c.requires (search rules) (search rules) (search rules) (search rules)) c.loop-done.done c.least-portion.result c.loop-done.board c.plain_advance-turn.result c.loop-done.invariant.1 c.plain_advance-turn.ensures c.from-numbers.result c.from-numbers.ensures 2 _ (omega arith) c.loop-done.invariant.4,
 )
 
 pub returns : goal.returns

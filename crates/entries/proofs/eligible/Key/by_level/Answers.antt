@@ -9,5 +9,5 @@ use Rattle.entries.proofs.eligible.Key.by_level.Goals as goal
 pub returns : goal.returns
 returns c =
     let k = c.args.self.0 in
-    ap (λ (x : ℕ). ltb (bit_xor (bit_and k 0xe380) 0x4000) (bit_xor x (bit_and (k / 4096) 1))) c.at_most_2.ensures
+    ap (λ (x : ℕ). ltb (bit_xor (bit_and k 0xe380) 0x4000) (bit_xor x (bit_and (k / 4096) 1))) c.min.ensures
     ∙ level-eligible k (omega arith) c.args.level

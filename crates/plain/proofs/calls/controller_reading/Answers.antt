@@ -1,6 +1,0 @@
-use Rattle.std.proofs.Common.{ap}
-use Rattle.board.specs.Step.{by_controller}
-use Rattle.plain.proofs.calls.controller_reading.Goals as goal
-
-pub returns : goal.returns
-returns c = ap (by_controller c.args.b) c.reading-t.ensures

@@ -1,8 +1,0 @@
-use Rattle.std.proofs.Common.{sym, ◌∙◌}
-use Rattle.plain_timers.proofs.registers.routed.Goals as goal
-
-pub returns-then-has : goal.returns-then-has
-returns-then-has c = rw (sym c.has.ensures ∙ c.if-has.true)
-
-pub returns : goal.returns
-returns c = rw (sym c.has.ensures ∙ c.if-has.false)
