@@ -1,0 +1,5 @@
+use Rattle.lines.proofs.Puts.{put_one}
+use Rattle.lines.proofs.text.put_byte.Goals as goal
+
+pub returns : goal.returns
+returns c = put_one c.args.out.now c.args.at c.args.b c.requires
