@@ -65,6 +65,9 @@ impl Low {
 }
 
 impl Entries {
+    // bit 24, after the last pin's
+    const AFTER: u32 = 0x0100_0000;
+
     fn keys(low: [u32; 24]) -> [u16; 24]
         ensures { result ≡ keys_of low }
     {
@@ -97,14 +100,11 @@ impl Entries {
         first as u32 | (last as u32) << 8
     }
 
-    /// The lowest-numbered eligible pin, if any is.
+    /// The lowest-numbered eligible pin, if any is. With bit 24 put in, the count is 24 where none is.
     pub fn first_eligible(self) -> Option<usize>
         ensures { result ≡ pin_at (first_eligible self) }
     {
-        let pins = self.eligible_pins();
-        if pins == 0 {
-            return None;
-        }
-        Some(u32::trailing_zeros(pins) as usize)
+        let pin = u32::trailing_zeros(self.eligible_pins() | Entries::AFTER) as usize;
+        if pin < Entries::PINS { Some(pin) } else { None }
     }
 }

@@ -28,10 +28,10 @@ fn settings_at(bytes: &[u8; LENGTH]) -> Settings
 }
 
 impl Settings {
-    /// The settings of a record, or why it is refused: in order, by 8 for its length, 6 for the mark, 9 for the form,
-    /// 10 for a number out of range.
+    /// The settings of a record, or the refusal of the first test that fails: of its length, the mark, the form, the
+    /// numbers.
     #[tactic(auto, unfolding(crate::specs::Record::read_of, crate::specs::Record::marked))]
-    pub fn accepted(bytes: &[u8]) -> Result<Settings, Refusal>
+    fn tested(bytes: &[u8]) -> Result<Settings, Refusal>
         ensures { reading_of result ≡ read_of bytes.now }
     {
         let record = bytes.as_array().ok_or(Refusal::Length)?;
@@ -48,11 +48,12 @@ impl Settings {
         Ok(settings)
     }
 
-    /// The settings of a record, and done; document 01's, and the refusal, where it is refused.
+    /// The settings of a record, and done. It is refused, in order, by 8 for its length, 6 for the mark, 9 for the
+    /// form, 10 for a number out of range; the settings are then document 01's.
     pub fn read(bytes: &[u8]) -> Reading
         ensures { result ≡ read_of bytes.now }
     {
-        match Settings::accepted(bytes) {
+        match Settings::tested(bytes) {
             Ok(settings) => Reading {
                 settings,
                 answer: Answer::Done,
@@ -61,6 +62,18 @@ impl Settings {
                 settings: Settings::standard(),
                 answer: Answer::Refused(refusal),
             },
+        }
+    }
+
+    /// What the reader gives, as a `Result`: the settings, or why the record is refused.
+    #[tactic(auto, unfolding(crate::specs::Record::read_of))]
+    pub fn accepted(bytes: &[u8]) -> Result<Settings, Refusal>
+        ensures { reading_of result ≡ read_of bytes.now }
+    {
+        let reading = Settings::read(bytes);
+        match reading.answer {
+            Answer::Refused(refusal) => Err(refusal),
+            _ => Ok(reading.settings),
         }
     }
 
