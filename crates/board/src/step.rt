@@ -168,7 +168,10 @@ impl Board {
         self.step(Call::Deliver)
     }
 
+    // Inlined into each call above: called, the board goes by copies, and a read took twice the time.
+
     /// A reset takes any board, every other call a well-formed one.
+    #[inline(always)]
     fn takes(self, call: Call) -> bool
         ensures { result ≡ takes self call }
     {
@@ -176,6 +179,7 @@ impl Board {
     }
 
     /// What a call does to a board that it takes.
+    #[inline(always)]
     fn served(self, call: Call) -> Turn
         requires { takes self call ≡ true }
         ensures { result ≡ served_of self call }
@@ -200,6 +204,7 @@ impl Board {
         }
     }
 
+    #[inline(always)]
     #[tactic(auto, unfolding(crate::specs::Step::turn_of))]
     pub fn step(self, call: Call) -> Turn
         ensures { result ≡ turn_of self call }

@@ -1,3 +1,4 @@
+pub mod Moves
 pub mod Fits
 pub mod Rests
 pub mod Served

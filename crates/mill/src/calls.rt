@@ -165,9 +165,10 @@ impl Mill {
         }
     }
 
-    // ---- every call
+    // ---- every call, inlined into each of the others: called, the mill goes by copies, and a read took twice the time
 
     /// A reset takes any mill, every other call a well-formed one.
+    #[inline(always)]
     fn takes(self, call: MillCall) -> bool
         ensures { result ≡ takes self call }
     {
@@ -181,6 +182,7 @@ impl Mill {
 
     /// What a call of the board does to a mill that takes it. A read changes neither the board nor a screen that fits
     /// it.
+    #[inline(always)]
     #[tactic(auto, using(crate::proofs::Served::board_calls))]
     fn board_served(self, call: Call) -> MillTurn
         requires { takes self (millcall.Board call) ≡ true }
@@ -213,6 +215,7 @@ impl Mill {
     }
 
     /// What a call does to a mill that it takes.
+    #[inline(always)]
     #[tactic(auto, unfolding(crate::specs::Mill::turn_of, crate::specs::Mill::served_of))]
     fn served(self, call: MillCall) -> MillTurn
         requires { takes self call ≡ true }
@@ -226,6 +229,7 @@ impl Mill {
     }
 
     // As `Board::step`: a trait for both would name `takes`, `served` and `refused` and a law of each, for one `if`.
+    #[inline(always)]
     #[tactic(auto, unfolding(crate::specs::Mill::turn_of))]
     pub fn step(self, call: MillCall) -> MillTurn
         ensures { result ≡ turn_of self call }

@@ -11,6 +11,7 @@ use entries::Low;
 
 impl Mill {
     /// A look at a pin: whether it holds an edge decides between asked and running.
+    #[inline(always)]
     fn looked_at(self, pin: u16) -> Mill
         ensures { result ≡ looked_at self pin }
     {
@@ -20,6 +21,7 @@ impl Mill {
         }
     }
 
+    #[inline(always)]
     #[tactic(auto, unfolding(crate::specs::Mill::telling_of))]
     pub(crate) fn telling(self, pin: u64) -> MillTurn
         ensures { result ≡ telling_of self pin }
@@ -38,6 +40,7 @@ impl Mill {
     }
 
     /// A resume takes effect in paused alone.
+    #[inline(always)]
     #[tactic(auto, unfolding(crate::specs::Mill::resuming_of))]
     pub(crate) fn resuming(self) -> MillTurn
         ensures { result ≡ resuming_of self }

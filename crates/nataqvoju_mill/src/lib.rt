@@ -12,7 +12,7 @@ ghost use Rattle.nataqvoju_mill.specs.Kinds.{called_of};
 ghost use Rattle.nataqvoju_mill.specs.Lent.{Gives};
 ghost use Rattle.nataqvoju_mill.specs.Reset.{reset_by};
 
-use answers::Numbers;
+use answers::{Answer, Numbers};
 use board::CallNumbers;
 use mill::{Mill, MillTurn};
 use settings::Settings;
@@ -26,11 +26,19 @@ fn left(m: &mut Mill, turn: MillTurn) -> Numbers
     Numbers::from(turn.answer)
 }
 
+// document 01's reset
+const RESET: u64 = 7;
+
 /// A call's kind, and the four numbers that go with it.
 #[unsafe(no_mangle)]
 pub extern "C" fn nataqvoju_mill(m: &mut Mill, kind: u64, p: u64, q: u64, r: u64, s: u64) -> Numbers
     ensures { Gives (called_of m.old kind p q r s) m.new result }
 {
+    // Where it lies: by value the mill that is thrown away would be copied.
+    if kind == RESET {
+        *m = Mill::reset();
+        return Numbers::from(Answer::Done);
+    }
     let turn = kinds::call(*m, CallNumbers { kind, p, q, r, s });
     left(m, turn)
 }
