@@ -211,6 +211,15 @@ two_or_more [] e = absurd (grind (arith, e))
 two_or_more (x ∷ []) e = absurd (grind (arith, e))
 two_or_more (x ∷ y ∷ s) e = omega arith
 
+-- what it decides
+pub hexadecimal : (s : List ℕ) → is_hex s ≡ true → number_in 16 (drop 2 s) ≡ either_of s
+unfolding either_of
+hexadecimal s e = rw e
+
+pub decimal : (s : List ℕ) → is_hex s ≡ false → number_of s ≡ either_of s
+unfolding either_of
+decimal s e = rw e
+
 -- ---- by example: `0023`, `+1`, `1x`, and `18446744073709551616`, the first number of more than 64 bits
 
 pub zeros-in-front : number_of (48 ∷ 48 ∷ 50 ∷ 51 ∷ []) ≡ Some 23

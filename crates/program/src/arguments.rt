@@ -145,8 +145,8 @@ impl Program<'_> {
     }
 
     /// Whether argument i is this word.
-    pub fn says(&self, i: usize, word: &str) -> bool {
+    pub fn says(&self, i: usize, word: &[u8]) -> bool {
         let mut text = [0; NAME_ROOM];
-        same(self.arg(i, &mut text), word.as_bytes())
+        same(self.arg(i, &mut text), word)
     }
 }

@@ -85,6 +85,8 @@ pub fn either_of(text: &[u8]) -> Option<u64>
 
 impl Program<'_> {
     /// The decimal number that argument i says; a missing argument says none.
+    // Inlined, so that its array lies in no frame on top of the program's own: `screen` would need as much more stack.
+    #[inline(always)]
     pub fn number(&self, i: usize) -> Option<u64> {
         let mut text = [0; ROOM];
         number_of(self.arg(i, &mut text))

@@ -6,7 +6,7 @@ use crate::{Program, Told};
 use std::fmt::InlineText;
 use std::fs;
 use std::fs::File;
-use std::io::{Error, Write};
+use std::io::{Error, Print, Write};
 
 // The longest text of an error that is told. The C library's have at most 64 bytes.
 const REASON: usize = 256;
@@ -27,23 +27,33 @@ fn reason(text: &str) -> &str {
 }
 
 impl Program<'_> {
-    /// What is wrong without a call that failed. A message that can't be written is lost: there is nowhere to tell it.
-    pub fn told(&self, what: &str, reason: &str) -> Told {
-        let name = self.name;
-        let _ = eprintln!(self.rt; "{name}: {what}: {reason}");
+    /// A part of a message. A message that can't be written is lost: there is nowhere to tell it.
+    // Not by `eprint!`: a part is bytes, which need not be text.
+    fn say(&self, text: &[u8]) {
+        let _ = Print::write_all(&self.rt.stderr(), text);
+    }
+
+    /// What is wrong without a call that failed.
+    pub fn told(&self, what: &[u8], reason: &[u8]) -> Told {
+        self.say(self.name);
+        self.say(b": ");
+        self.say(what);
+        self.say(b": ");
+        self.say(reason);
+        self.say(b"\n");
         Told
     }
 
     /// A call on `what` failed with this error.
-    pub(crate) fn failed(&self, what: &str, error: Error) -> Told {
+    pub(crate) fn failed(&self, what: &[u8], error: Error) -> Told {
         let text = InlineText::<REASON>::of(error);
-        self.told(what, reason(text.as_str()))
+        self.told(what, reason(text.as_str()).as_bytes())
     }
 
     /// Writes all of a text to a file, or tells why not.
-    fn put<W: Write>(&self, to: &mut W, what: &str, text: &[u8]) -> Result<(), Told> {
+    fn put<W: Write>(&self, to: &mut W, what: &[u8], text: &[u8]) -> Result<(), Told> {
         match write_all(to, text) {
-            Ok(n) if n < text.len() => Err(self.told(what, "nothing more is taken")),
+            Ok(n) if n < text.len() => Err(self.told(what, b"nothing more is taken")),
             Ok(_) => Ok(()),
             Err(error) => Err(self.failed(what, error)),
         }
@@ -51,12 +61,12 @@ impl Program<'_> {
 
     /// The answer, or a part of it, on standard output.
     pub fn print(&self, text: &[u8]) {
-        let _ = self.put(&mut self.rt.stdout(), "standard output", text);
+        let _ = self.put(&mut self.rt.stdout(), b"standard output", text);
     }
 
     /// Writes all of a text to a file that is open, brings it to its disk and closes it: what was written may be lost
     /// before. Closing it says nothing. Once a write has failed, no more is told of the file.
-    fn put_and_close(&self, mut file: File, what: &str, text: &[u8]) -> Result<(), Told> {
+    fn put_and_close(&self, mut file: File, what: &[u8], text: &[u8]) -> Result<(), Told> {
         self.put(&mut file, what, text)?;
         file.sync_all().map_err(|error| self.failed(what, error))
     }
@@ -65,11 +75,12 @@ impl Program<'_> {
     fn remove(&self, path: &str) {
         if let Err(error) = fs::remove_file(self.rt, path) {
             let text = InlineText::<REASON>::of(error);
-            let name = self.name;
-            let reason = reason(text.as_str());
-            let _ = eprintln!(self.rt;
-                "{name}: {path}: it is not whole, and can't be removed: {reason}"
-            );
+            self.say(self.name);
+            self.say(b": ");
+            self.say(path.as_bytes());
+            self.say(b": it is not whole, and can't be removed: ");
+            self.say(reason(text.as_str()).as_bytes());
+            self.say(b"\n");
         }
     }
 
@@ -81,13 +92,13 @@ impl Program<'_> {
             .open(self.rt, path);
         match opened {
             Ok(file) => {
-                let written = self.put_and_close(file, path, text);
+                let written = self.put_and_close(file, path.as_bytes(), text);
                 if written.is_err() {
                     self.remove(path);
                 }
                 written
             }
-            Err(error) => Err(self.failed(path, error)),
+            Err(error) => Err(self.failed(path.as_bytes(), error)),
         }
     }
 
@@ -95,9 +106,9 @@ impl Program<'_> {
     pub fn names_file(&self, i: usize) -> Result<(), Told> {
         let mut buf = [0; NAME_ROOM];
         match self.named(i, &mut buf) {
-            Ok("") => Err(self.told("the new file's name", "it is empty")),
+            Ok("") => Err(self.told(b"the new file's name", b"it is empty")),
             Ok(_) => Ok(()),
-            Err(error) => Err(self.failed("the new file's name", error)),
+            Err(error) => Err(self.failed(b"the new file's name", error)),
         }
     }
 
@@ -107,7 +118,7 @@ impl Program<'_> {
         let mut buf = [0; NAME_ROOM];
         match self.named(i, &mut buf) {
             Ok(path) => self.make_file(path, text),
-            Err(error) => Err(self.failed("the new file's name", error)),
+            Err(error) => Err(self.failed(b"the new file's name", error)),
         }
     }
 
@@ -123,12 +134,11 @@ impl Program<'_> {
 
     /// The usage that was asked for, on standard output.
     pub fn usage(&self) {
-        self.print(self.usage.as_bytes());
+        self.print(self.usage);
     }
 
     /// The usage after a wrong use, on standard error.
     pub fn misused(&self) {
-        let usage = self.usage;
-        let _ = eprint!(self.rt; "{usage}");
+        self.say(self.usage);
     }
 }

@@ -42,7 +42,7 @@ impl Program<'_> {
             self.usage();
             return;
         }
-        if self.says(1, "--settings") {
+        if self.says(1, b"--settings") {
             if !self.two_inputs(2, 3) {
                 self.misused();
                 return;

@@ -23,8 +23,8 @@ use settings::Settings;
 // The text is put into an array that is lent: a program has no heap (docs/DECISIONS.md, reading 91).
 const ROOM: usize = 1398144;
 
-const USAGE: &str =
-    "usage: replay [--settings FILE] [FILE]\nReplays an event log on a board from reset, and prints a line for each record.\nFILE is the log, of at most 65,536 bytes; no FILE or - is standard input.\n--settings resets the board with the settings of a record, which is a file too, or -\nif the log is none.\n";
+const USAGE: &[u8] =
+    b"usage: replay [--settings FILE] [FILE]\nReplays an event log on a board from reset, and prints a line for each record.\nFILE is the log, of at most 65,536 bytes; no FILE or - is standard input.\n--settings resets the board with the settings of a record, which is a file too, or -\nif the log is none.\n";
 
 /// What a log prints on a board.
 fn played<'b>(log: &[u8], board: Board, out: &'b mut [u8; ROOM]) -> &'b [u8]
@@ -76,7 +76,7 @@ fn accepts(bytes: &[u8]) -> bool
 }
 
 fn main(rt: HostRuntime) {
-    let program = Program::new(&rt, "replay", USAGE);
+    let program = Program::new(&rt, b"replay", USAGE);
     program.run(accepts, |record, log| {
         let mut out = [0; ROOM];
         program.print(match record {

@@ -29,8 +29,8 @@ const LIST: usize = 131072;
 // for.
 const TEXT: usize = 2162816;
 
-const USAGE: &str =
-    "usage: salvage FILE OUT\nCopies the records that a damaged event log still has to the new file OUT, and\nprints a line for each stretch that was skipped, and how many records were kept.\nFILE is the log, of at most 262,144 bytes; - is standard input.\nOUT must not exist yet.\n";
+const USAGE: &[u8] =
+    b"usage: salvage FILE OUT\nCopies the records that a damaged event log still has to the new file OUT, and\nprints a line for each stretch that was skipped, and how many records were kept.\nFILE is the log, of at most 262,144 bytes; - is standard input.\nOUT must not exist yet.\n";
 
 /// The whole output for a log.
 fn output<'b>(
@@ -79,7 +79,7 @@ fn run(program: &Program) -> Result<(), Told> {
 }
 
 fn main(rt: HostRuntime) {
-    let program = Program::new(&rt, "salvage", USAGE);
+    let program = Program::new(&rt, b"salvage", USAGE);
     if program.asks_help() {
         program.usage();
     } else if !program.input_and_file(1, 2) {

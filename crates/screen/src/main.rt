@@ -22,8 +22,8 @@ use settings::Settings;
 // The text is put into an array that is lent: a program has no heap (docs/DECISIONS.md, reading 91).
 const ROOM: usize = 1747680;
 
-const USAGE: &str =
-    "usage: screen [--settings FILE] PIN [FILE]\nReplays an event log on a board from reset, and prints a line for each record\nand for each word of the pause screen: running, asked, taken, paused.\nPIN is the pause key's pin, a decimal number from 0 to 23.\nFILE is the log, of at most 65,536 bytes; no FILE or - is standard input.\nThe FILE of --settings is a settings record of 22 bytes, with which the board is\nreset; it is standard input for -, if the log is a file.\n";
+const USAGE: &[u8] =
+    b"usage: screen [--settings FILE] PIN [FILE]\nReplays an event log on a board from reset, and prints a line for each record\nand for each word of the pause screen: running, asked, taken, paused.\nPIN is the pause key's pin, a decimal number from 0 to 23.\nFILE is the log, of at most 65,536 bytes; no FILE or - is standard input.\nThe FILE of --settings is a settings record of 22 bytes, with which the board is\nreset; it is standard input for -, if the log is a file.\n";
 
 /// A mill reset with settings, and told its pin.
 // Settings, pin and log stay parameters: they come one by one, and where one is refused the next is not read.
@@ -134,10 +134,10 @@ fn without(program: &Program) {
 
 // Not `Program::run`, which knows no argument but the two files: PIN stands between them.
 fn main(rt: HostRuntime) {
-    let program = Program::new(&rt, "screen", USAGE);
+    let program = Program::new(&rt, b"screen", USAGE);
     if program.asks_help() {
         program.usage();
-    } else if program.says(1, "--settings") {
+    } else if program.says(1, b"--settings") {
         with_settings(&program);
     } else {
         without(&program);

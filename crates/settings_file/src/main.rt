@@ -18,8 +18,8 @@ use settings::Settings;
 // The text is put into an array that is lent: a program has no heap (docs/DECISIONS.md, reading 91).
 const TEXT: usize = 128;
 
-const USAGE: &str =
-    "usage: settings show [FILE]\n       settings make VENDOR PERIOD MASK0 MASK1 MASK2 ID OUT\nshow prints the settings that a record of 22 bytes has, a line for each number.\nFILE is the record; no FILE or - is standard input.\nmake writes the record of six numbers to the new file OUT, and prints the same.\nA number is decimal, or hexadecimal after 0x. VENDOR has 16 bits, PERIOD is 1 to\n100,000,000 femtoseconds, a mask is nonzero and below 2^24, ID is at most 15.\nOUT must not exist yet.\n";
+const USAGE: &[u8] =
+    b"usage: settings show [FILE]\n       settings make VENDOR PERIOD MASK0 MASK1 MASK2 ID OUT\nshow prints the settings that a record of 22 bytes has, a line for each number.\nFILE is the record; no FILE or - is standard input.\nmake writes the record of six numbers to the new file OUT, and prints the same.\nA number is decimal, or hexadecimal after 0x. VENDOR has 16 bits, PERIOD is 1 to\n100,000,000 femtoseconds, a mask is nonzero and below 2^24, ID is at most 15.\nOUT must not exist yet.\n";
 
 /// Six numbers, as the arguments say them.
 #[derive(Clone, Copy)]
@@ -144,12 +144,12 @@ fn makes(program: &Program) {
 }
 
 fn main(rt: HostRuntime) {
-    let program = Program::new(&rt, "settings", USAGE);
+    let program = Program::new(&rt, b"settings", USAGE);
     if program.asks_help() {
         program.usage();
-    } else if program.says(1, "show") {
+    } else if program.says(1, b"show") {
         shows(&program);
-    } else if program.says(1, "make") {
+    } else if program.says(1, b"make") {
         makes(&program);
     } else {
         program.misused();

@@ -42,8 +42,8 @@ pub struct Differ {
 // (docs/DECISIONS.md, reading 91).
 const ROOM: usize = 1398272;
 
-const USAGE: &str =
-    "usage: twin [--settings FILE] [FILE]\nReplays an event log on two engines side by side, and prints a line for each record.\nAt the first record where they differ it prints 'differ RECORD at OFFSET' and the\nline of each, and stops. The second engine walks every tick of an advance.\nFILE is the log, of at most 65,536 bytes; no FILE or - is standard input.\n--settings resets both boards with the settings of a record, which is a file too, or -\nif the log is none.\n";
+const USAGE: &[u8] =
+    b"usage: twin [--settings FILE] [FILE]\nReplays an event log on two engines side by side, and prints a line for each record.\nAt the first record where they differ it prints 'differ RECORD at OFFSET' and the\nline of each, and stops. The second engine walks every tick of an advance.\nFILE is the log, of at most 65,536 bytes; no FILE or - is standard input.\n--settings resets both boards with the settings of a record, which is a file too, or -\nif the log is none.\n";
 
 // `rt` stays a parameter beside the log: it only shows how far a walk is, and no clause speaks of it.
 /// What a log prints on a board and its twin; where they differ, the text is an error.
@@ -124,13 +124,13 @@ fn tell(program: &Program, output: Result<&[u8], &[u8]>) {
         Ok(text) => program.print(text),
         Err(text) => {
             program.print(text);
-            program.told("the engines", "they differ");
+            program.told(b"the engines", b"they differ");
         }
     }
 }
 
 fn main(rt: HostRuntime) {
-    let program = Program::new(&rt, "twin", USAGE);
+    let program = Program::new(&rt, b"twin", USAGE);
     program.run(accepts, |record, log| {
         let mut out = [0; ROOM];
         let output = match record {
